@@ -462,7 +462,7 @@ impl<S: Stream, P: Printer<S>> Adapter<S, P> {
         if let Report::Fail { job } = report {
             self.log.note(LogEntry::GivenUp(*job));
         }
-        let _said = self.line.say(report);
+        let _printed = self.line.say(report);
     }
 
     /// Writes the bytes that are still due to the server, and drops the bytes that come. Returns whether the

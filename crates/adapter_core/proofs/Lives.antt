@@ -10,7 +10,7 @@ use Rattle.adapter_core.specs.declared.printer_state.PrinterState.{PrinterState}
 use Rattle.adapter_core.specs.declared.printer_state.PrinterState.TheVariants.{Running, Stopped}
 use Rattle.adapter_core.specs.Life.{Event, Links, Ordered, Came, Canceled, Sent, EndsCopy, Restarts, Printed, Is, Reported, Leads}
 use Rattle.adapter_core.specs.Promises.{AnswersOnce, SendsTheJob, ObeysCancel, ReportsState}
-use Rattle.adapter_core.specs.AdapterState.{WorkRecord, AdapterStateRecord, id_of, sending_of, cancel_state_of, reported_of, IsAfter, Lives, unreported, due_of, due_in, copy_sent_in, HasRoom, said_by, end_report, fail_report, pages_report, state_report, begun, with_came, with_sent, with_copy, with_restart, with_cancel, changed}
+use Rattle.adapter_core.specs.AdapterState.{WorkRecord, AdapterStateRecord, id_of, sending_of, cancel_state_of, reported_of, IsAfter, Lives, unreported, due_of, due_in, copy_sent_in, HasRoom, reported_events, end_report, fail_report, pages_report, state_report, begun, with_came, with_sent, with_copy, with_restart, with_cancel, changed}
 
 -- ---- one event more
 
@@ -148,23 +148,23 @@ abbrev events_of : Option ReportRecord → List Event
 events_of None = []
 events_of (Some report) = Reported report ∷ []
 
-said_events : (report : Option Report) (said : Option ReportRecord) → option_map report_of report ≡ said → said_by report ≡ events_of said
-said_events None said is = ap events_of is
-said_events (Some report) said is = ap events_of is
+parsed_events : (report : Option Report) (parsed : Option ReportRecord) → option_map report_of report ≡ parsed → reported_events report ≡ events_of parsed
+parsed_events None parsed is = ap events_of is
+parsed_events (Some report) parsed is = ap events_of is
 
 pages_by : (work : Option WorkRecord) (printer : PrinterState) (reported : Option PrinterState) (printed : ℕ) → Lives (record { work = work; printer = printer; reported = reported }) (events_of (option_map (pages_report printed) work)) (record { work = work; printer = printer; reported = reported })
 pages_by None printer reported printed = lives_still (record { work = None; printer = printer; reported = reported })
 pages_by (Some work) printer reported printed = lives_by (record { work = Some work; printer = printer; reported = reported }) (Reported (PagesReport work.job printed)) _ (record { answers = (refl, refl); sends = refl; obeys = refl; reports = refl })
 
-pub lives_pages : (at : AdapterStateRecord) (report : Option Report) (printed : ℕ) → option_map report_of report ≡ option_map (pages_report printed) at.work → Lives at (said_by report) at
-lives_pages at report printed is = subst (λ (e : List Event). Lives at e at) (sym (said_events report (option_map (pages_report printed) at.work) is)) (pages_by at.work at.printer at.reported printed)
+pub lives_pages : (at : AdapterStateRecord) (report : Option Report) (printed : ℕ) → option_map report_of report ≡ option_map (pages_report printed) at.work → Lives at (reported_events report) at
+lives_pages at report printed is = subst (λ (e : List Event). Lives at e at) (sym (parsed_events report (option_map (pages_report printed) at.work) is)) (pages_by at.work at.printer at.reported printed)
 
 fail_by : (work : Option WorkRecord) (printer : PrinterState) (reported : Option PrinterState) → Lives (record { work = work; printer = printer; reported = reported }) (events_of (option_map fail_report work)) (record { work = None; printer = printer; reported = reported })
 fail_by None printer reported = lives_still (record { work = None; printer = printer; reported = reported })
 fail_by (Some work) printer reported = lives_by (record { work = Some work; printer = printer; reported = reported }) (Reported (FailReport work.job)) _ (record { answers = (refl, refl); sends = refl; obeys = refl; reports = refl })
 
-pub lives_failed : (old : AdapterStateRecord) (report : Option Report) → option_map report_of report ≡ option_map fail_report old.work → Lives old (said_by report) (record old { work = None })
-lives_failed old report is = subst (λ (e : List Event). Lives old e (record old { work = None })) (sym (said_events report (option_map fail_report old.work) is)) (fail_by old.work old.printer old.reported)
+pub lives_failed : (old : AdapterStateRecord) (report : Option Report) → option_map report_of report ≡ option_map fail_report old.work → Lives old (reported_events report) (record old { work = None })
+lives_failed old report is = subst (λ (e : List Event). Lives old e (record old { work = None })) (sym (parsed_events report (option_map fail_report old.work) is)) (fail_by old.work old.printer old.reported)
 
 -- the state after the printer has printed a job, and before the report about the job
 record IsPrinted (life : List Event) (work : WorkRecord) (printer : PrinterState) (reported : Option PrinterState) : Type 0 where
@@ -206,8 +206,8 @@ finish_by (Some work) printer reported = λ life reaches.
     let new : AdapterStateRecord = record { work = None; printer = printer; reported = reported } in
     subst (λ l. IsAfter l new) (append_assoc life (Printed ∷ []) (Reported (end_report work) ∷ [])) (ended_by (life ++ Printed ∷ []) work printer reported (work.copies == work.times) refl (printed_by life work printer reported reaches))
 
-pub lives_finished : (old : AdapterStateRecord) (report : Option Report) → option_map report_of report ≡ option_map end_report old.work → Lives old (Printed ∷ said_by report) (record old { work = None })
-lives_finished old report is = subst (λ (e : List Event). Lives old (Printed ∷ e) (record old { work = None })) (sym (said_events report (option_map end_report old.work) is)) (finish_by old.work old.printer old.reported)
+pub lives_finished : (old : AdapterStateRecord) (report : Option Report) → option_map report_of report ≡ option_map end_report old.work → Lives old (Printed ∷ reported_events report) (record old { work = None })
+lives_finished old report is = subst (λ (e : List Event). Lives old (Printed ∷ e) (record old { work = None })) (sym (parsed_events report (option_map end_report old.work) is)) (finish_by old.work old.printer old.reported)
 
 abbrev IsState : ReportRecord → Type 0
 IsState ReadyReport = Unit {0}
@@ -229,5 +229,5 @@ report_by work Stopped (Some Stopped) = lives_still _
 report_by work Stopped (Some Running) = reports_state work Stopped (Some Running) (Some Stopped) StopReport (refl, (λ is. cc is), refl) tt
 report_by work Stopped None = reports_state work Stopped None (Some Stopped) StopReport (refl, (λ is. cc is), refl) tt
 
-pub lives_reported : (old : AdapterStateRecord) (report : Option Report) → option_map report_of report ≡ state_report old.printer old.reported → Lives old (said_by report) (record old { reported = Some old.printer })
-lives_reported old report is = subst (λ (e : List Event). Lives old e (record old { reported = Some old.printer })) (sym (said_events report (state_report old.printer old.reported) is)) (report_by old.work old.printer old.reported)
+pub lives_reported : (old : AdapterStateRecord) (report : Option Report) → option_map report_of report ≡ state_report old.printer old.reported → Lives old (reported_events report) (record old { reported = Some old.printer })
+lives_reported old report is = subst (λ (e : List Event). Lives old e (record old { reported = Some old.printer })) (sym (parsed_events report (state_report old.printer old.reported) is)) (report_by old.work old.printer old.reported)

@@ -21,19 +21,19 @@ use Rattle.adapter_core.specs.OrderStream.{OrderElement, Orders, HasOctet, Order
 
 -- ---- one after the other
 
-prefix_twice : (first later : List OrderElement) (parsed : ParsedOrders) → with_prefix (first ++ later) parsed ≡ with_prefix first (with_prefix later parsed)
-prefix_twice first later parsed = ap (λ s. record { said = s; place = parsed.place }) (append_assoc first later parsed.said)
+prefix_twice : (first later : List OrderElement) (outcome : ParsedOrders) → with_prefix (first ++ later) outcome ≡ with_prefix first (with_prefix later outcome)
+prefix_twice first later outcome = ap (λ s. record { parsed = s; place = outcome.place }) (append_assoc first later outcome.parsed)
 
-pub parsed_append : (place : OrderPlace) (bytes more : List ℕ) → parsed_from place (bytes ++ more) ≡ with_prefix (parsed_from place bytes).said (parsed_from (parsed_from place bytes).place more)
+pub parsed_append : (place : OrderPlace) (bytes more : List ℕ) → parsed_from place (bytes ++ more) ≡ with_prefix (parsed_from place bytes).parsed (parsed_from (parsed_from place bytes).place more)
 parsed_append place [] more = refl
 parsed_append place (byte ∷ bytes) more =
     let next = byte_parsed place byte in
     let here = parsed_from next.place bytes in
-    ap (λ (h : ParsedOrders). with_prefix next.said h) (parsed_append next.place bytes more) ∙ sym (prefix_twice next.said here.said (parsed_from here.place more))
+    ap (λ (h : ParsedOrders). with_prefix next.parsed h) (parsed_append next.place bytes more) ∙ sym (prefix_twice next.parsed here.parsed (parsed_from here.place more))
 
 -- from a place on, the items of further bytes follow the items of the bytes before
-pub parsed_then : (place : OrderPlace) (bytes more : List ℕ) (parsed : ParsedOrders) → parsed_from place bytes ≡ parsed → parsed_from place (bytes ++ more) ≡ with_prefix parsed.said (parsed_from parsed.place more)
-parsed_then place bytes more parsed is = subst (λ (h : ParsedOrders). parsed_from place (bytes ++ more) ≡ with_prefix h.said (parsed_from h.place more)) is (parsed_append place bytes more)
+pub parsed_then : (place : OrderPlace) (bytes more : List ℕ) (outcome : ParsedOrders) → parsed_from place bytes ≡ outcome → parsed_from place (bytes ++ more) ≡ with_prefix outcome.parsed (parsed_from outcome.place more)
+parsed_then place bytes more outcome is = subst (λ (h : ParsedOrders). parsed_from place (bytes ++ more) ≡ with_prefix h.parsed (parsed_from h.place more)) is (parsed_append place bytes more)
 
 -- ---- a fault stays
 
@@ -48,7 +48,7 @@ reaches_fed : (stream : List ℕ) (given : List OrderElement) (segment : List �
 reaches_fed stream given segment reader reaches =
     let here = parsed_from (place_of reader) reader.rest in
     parsed_then (InLine []) stream segment (with_prefix given here) reaches
-    ∙ prefix_twice given here.said (parsed_from here.place segment)
+    ∙ prefix_twice given here.parsed (parsed_from here.place segment)
     ∙ ap (λ (h : ParsedOrders). with_prefix given h) (sym (parsed_append (place_of reader) reader.rest segment))
 
 -- a segment of which nothing is read yet
@@ -67,7 +67,7 @@ reaches_still stream given segment reader faulty reaches =
 
 -- ---- lines
 
-line_ended : (line after : List ℕ) → parsed_from (InLine line) (10 ∷ after) ≡ with_prefix (line_parsed (order_in line)).said (parsed_from (line_parsed (order_in line)).place after)
+line_ended : (line after : List ℕ) → parsed_from (InLine line) (10 ∷ after) ≡ with_prefix (line_parsed (order_in line)).parsed (parsed_from (line_parsed (order_in line)).place after)
 unfolding byte_parsed
 line_ended line after = refl
 
@@ -75,14 +75,14 @@ line_goes_on : (line : List ℕ) (byte : ℕ) (bytes : List ℕ) → (byte == 10
 unfolding byte_parsed
 line_goes_on line byte bytes other short = rw (other, lt-ltb (length line + 1) DEVICE_LINE_BYTES short) refl
 
-pub line_whole : (line before after : List ℕ) → Lacks 10 before → length line + length before < DEVICE_LINE_BYTES → parsed_from (InLine line) (before ++ (10 ∷ after)) ≡ with_prefix (line_parsed (order_in (line ++ before))).said (parsed_from (line_parsed (order_in (line ++ before))).place after)
+pub line_whole : (line before after : List ℕ) → Lacks 10 before → length line + length before < DEVICE_LINE_BYTES → parsed_from (InLine line) (before ++ (10 ∷ after)) ≡ with_prefix (line_parsed (order_in (line ++ before))).parsed (parsed_from (line_parsed (order_in (line ++ before))).place after)
 line_whole line [] after lacks short =
-    subst (λ (l : List ℕ). parsed_from (InLine line) (10 ∷ after) ≡ with_prefix (line_parsed (order_in l)).said (parsed_from (line_parsed (order_in l)).place after)) (sym (append-nil line)) (line_ended line after)
+    subst (λ (l : List ℕ). parsed_from (InLine line) (10 ∷ after) ≡ with_prefix (line_parsed (order_in l)).parsed (parsed_from (line_parsed (order_in l)).place after)) (sym (append-nil line)) (line_ended line after)
 line_whole line (byte ∷ before) after lacks short =
     let P : ℕ → Type 0 = λ b. (b == 10) ≡ false in
     let on = line_goes_on line byte (before ++ (10 ∷ after)) (All-head P byte before lacks) (omega (arith, short)) in
     let rest = line_whole (line ++ byte ∷ []) before after (All-tail P byte before lacks) (omega (arith, short, length-append line (byte ∷ []))) in
-    subst (λ (l : List ℕ). parsed_from (InLine line) (byte ∷ (before ++ (10 ∷ after))) ≡ with_prefix (line_parsed (order_in l)).said (parsed_from (line_parsed (order_in l)).place after)) (append_assoc line (byte ∷ []) before) (on ∙ rest)
+    subst (λ (l : List ℕ). parsed_from (InLine line) (byte ∷ (before ++ (10 ∷ after))) ≡ with_prefix (line_parsed (order_in l)).parsed (parsed_from (line_parsed (order_in l)).place after)) (append_assoc line (byte ∷ []) before) (on ∙ rest)
 
 line_begun : (line bytes : List ℕ) → Lacks 10 bytes → length line + length bytes < DEVICE_LINE_BYTES → parsed_from (InLine line) bytes ≡ silent (InLine (line ++ bytes))
 line_begun line [] lacks short = ap (λ l. silent (InLine l)) (sym (append-nil line))
@@ -127,9 +127,9 @@ octets_first (byte ∷ part) more count =
 
 -- ---- answers
 
-advance : (old : OrderReaderState) (said : List OrderElement) (new : OrderReaderState) → parsed_from (place_of old) old.rest ≡ with_prefix said (parsed_from (place_of new) new.rest) → Advances old said new
-advance old said new is stream given reaches =
-    reaches ∙ ap (λ (h : ParsedOrders). with_prefix given h) is ∙ sym (prefix_twice given said (parsed_from (place_of new) new.rest))
+advance : (old : OrderReaderState) (parsed : List OrderElement) (new : OrderReaderState) → parsed_from (place_of old) old.rest ≡ with_prefix parsed (parsed_from (place_of new) new.rest) → Advances old parsed new
+advance old parsed new is stream given reaches =
+    reaches ∙ ap (λ (h : ParsedOrders). with_prefix given h) is ∙ sym (prefix_twice given parsed (parsed_from (place_of new) new.rest))
 
 pub answers_octets : (old : OrderReaderState) (size : ℕ) → old.fault ≡ None → size ≤ length old.rest → size ≤ old.octets → Advances old (map HasOctet (take size old.rest)) (record { part = take size old.rest; rest = drop size old.rest; octets = old.octets - size; fault = old.fault })
 answers_octets old size faultless there few =
@@ -147,7 +147,7 @@ at_line : (old : OrderReaderState) → old.fault ≡ None → old.octets ≡ 0 �
 at_line old faultless outside = subst (λ (f : Option OrderFault). place_by f old.octets ≡ InLine []) (sym faultless) (ap (λ n. octets_left n) outside)
 
 line_at : (old : OrderReaderState) (count : ℕ) → old.fault ≡ None → old.octets ≡ 0 → first_line_of DEVICE_LINE_BYTES old.rest ≡ prefix.Whole count
-    → parsed_from (place_of old) old.rest ≡ with_prefix (line_parsed (order_in (take count old.rest))).said (parsed_from (line_parsed (order_in (take count old.rest))).place (drop (count + 1) old.rest))
+    → parsed_from (place_of old) old.rest ≡ with_prefix (line_parsed (order_in (take count old.rest))).parsed (parsed_from (line_parsed (order_in (take count old.rest))).place (drop (count + 1) old.rest))
 line_at old count faultless outside line =
     let whole = whole_line DEVICE_LINE_BYTES old.rest count line in
     let cut = cut_found 10 old.rest count whole.0 in
@@ -163,8 +163,8 @@ line_at old count faultless outside line =
 pub answers_order : (old : OrderReaderState) (count : ℕ) (order : Order) → old.fault ≡ None → old.octets ≡ 0 → first_line_of DEVICE_LINE_BYTES old.rest ≡ prefix.Whole count → order_in (take count old.rest) ≡ Some order
     → Advances old (Orders order ∷ []) (record { part = []; rest = drop (count + 1) old.rest; octets = octets_after order; fault = old.fault })
 answers_order old count order faultless outside line parses =
-    let parsed = line_at old count faultless outside line in
-    let here : parsed_from (place_of old) old.rest ≡ with_prefix (Orders order ∷ []) (parsed_from (octets_left (octets_after order)) (drop (count + 1) old.rest)) = subst (λ (o : Option Order). parsed_from (place_of old) old.rest ≡ with_prefix (line_parsed o).said (parsed_from (line_parsed o).place (drop (count + 1) old.rest))) parses parsed in
+    let outcome = line_at old count faultless outside line in
+    let here : parsed_from (place_of old) old.rest ≡ with_prefix (Orders order ∷ []) (parsed_from (octets_left (octets_after order)) (drop (count + 1) old.rest)) = subst (λ (o : Option Order). parsed_from (place_of old) old.rest ≡ with_prefix (line_parsed o).parsed (parsed_from (line_parsed o).place (drop (count + 1) old.rest))) parses outcome in
     advance old (Orders order ∷ []) (record { part = []; rest = drop (count + 1) old.rest; octets = octets_after order; fault = old.fault })
     (subst (λ (f : Option OrderFault). parsed_from (place_of old) old.rest ≡ with_prefix (Orders order ∷ []) (parsed_from (place_by f (octets_after order)) (drop (count + 1) old.rest))) (sym faultless) here)
 
@@ -173,15 +173,15 @@ fault_reaches old fault is = (
   refl,
   λ stream given reaches.
       let all : orders_in stream ≡ with_prefix given (silent (AtFault fault)) = reaches ∙ ap (λ (h : ParsedOrders). with_prefix given h) is in (
-        all ∙ ap (λ (s : List OrderElement). record { said = s; place = AtFault fault }) (append-nil given),
+        all ∙ ap (λ (s : List OrderElement). record { parsed = s; place = AtFault fault }) (append-nil given),
         all ∙ ap (λ (h : ParsedOrders). with_prefix given h) (sym (parsed_over fault old.rest)),
       ),
 )
 
 pub answers_bad_line : (old : OrderReaderState) (count : ℕ) → old.fault ≡ None → old.octets ≡ 0 → first_line_of DEVICE_LINE_BYTES old.rest ≡ prefix.Whole count → order_in (take count old.rest) ≡ None → Answers old (Err (Fault BadLine)) (record old { fault = Some BadLine })
 answers_bad_line old count faultless outside line parses =
-    let parsed = line_at old count faultless outside line in
-    let here : parsed_from (place_of old) old.rest ≡ with_prefix [] (parsed_from (AtFault BadLine) (drop (count + 1) old.rest)) = subst (λ (o : Option Order). parsed_from (place_of old) old.rest ≡ with_prefix (line_parsed o).said (parsed_from (line_parsed o).place (drop (count + 1) old.rest))) parses parsed in
+    let outcome = line_at old count faultless outside line in
+    let here : parsed_from (place_of old) old.rest ≡ with_prefix [] (parsed_from (AtFault BadLine) (drop (count + 1) old.rest)) = subst (λ (o : Option Order). parsed_from (place_of old) old.rest ≡ with_prefix (line_parsed o).parsed (parsed_from (line_parsed o).place (drop (count + 1) old.rest))) parses outcome in
     fault_reaches old BadLine (here ∙ ap (λ (h : ParsedOrders). with_prefix [] h) (parsed_over BadLine (drop (count + 1) old.rest)))
 
 pub answers_too_long : (old : OrderReaderState) → old.fault ≡ None → old.octets ≡ 0 → first_line_of DEVICE_LINE_BYTES old.rest ≡ prefix.TooLong → Answers old (Err (Fault LineTooLong)) (record old { fault = Some LineTooLong })
@@ -196,12 +196,12 @@ answers_again old fault faulty =
     let over : parsed_from (place_of old) old.rest ≡ silent (AtFault fault) = ap (λ (f : Option OrderFault). parsed_from (place_by f old.octets) old.rest) faulty ∙ parsed_over fault old.rest in
     subst (λ new. Answers old (Err (Fault fault)) new) same (fault_reaches old fault over)
 
-waits : (old : OrderReaderState) → (parsed_from (place_of old) old.rest).said ≡ [] → Answers old (Ok None) old
-waits old is = (refl, λ stream given reaches. ap (λ (h : ParsedOrders). h.said) reaches ∙ ap (λ (s : List OrderElement). given ++ s) is ∙ append-nil given)
+waits : (old : OrderReaderState) → (parsed_from (place_of old) old.rest).parsed ≡ [] → Answers old (Ok None) old
+waits old is = (refl, λ stream given reaches. ap (λ (h : ParsedOrders). h.parsed) reaches ∙ ap (λ (s : List OrderElement). given ++ s) is ∙ append-nil given)
 
 -- the answer while no line is whole
 pub answers_nothing : (old : OrderReaderState) → old.fault ≡ None → old.octets ≡ 0 → first_line_of DEVICE_LINE_BYTES old.rest ≡ prefix.Unfinished → Answers old (Ok None) old
 answers_nothing old faultless outside begun =
     let parts = unfinished_line DEVICE_LINE_BYTES old.rest begun in
     let here = line_begun [] old.rest (found_nowhere 10 old.rest parts.0) (omega (arith, parts.1)) in
-    waits old (ap (λ (h : ParsedOrders). h.said) (ap (λ (p : OrderPlace). parsed_from p old.rest) (at_line old faultless outside) ∙ here))
+    waits old (ap (λ (h : ParsedOrders). h.parsed) (ap (λ (p : OrderPlace). parsed_from p old.rest) (at_line old faultless outside) ∙ here))

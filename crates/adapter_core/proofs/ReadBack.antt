@@ -12,18 +12,18 @@ use Rattle.base_types.specs.Report.{ReportRecord, HelloReport, MediaReport, Read
 use Rattle.text.specs.Parts.{parts_at, words_of, Lacks}
 use Rattle.text.proofs.Cuts.{parts_cut, parts_uncut}
 use Rattle.device_link.specs.declared.number.TheConstants.{MOST_PRINTED}
-use Rattle.device_link.specs.Line.{media_in, name_in, said_alone, said_of_one, said_of_two, said}
+use Rattle.device_link.specs.Line.{media_in, name_in, parsed_alone, parsed_of_one, parsed_of_two, parsed}
 use Rattle.adapter_core.specs.Reports.{listed, report_line, HasLine}
 use Rattle.adapter_core.proofs.Written.{isnt, lacks_by, joined_lacks, decimal_lacks, number_back, word_then, word_alone, media_all, if_true}
 
 -- a word and its one operand
-one_said : (word operand : List ℕ) → Lacks 32 word → Lacks 32 operand → said (words_of (word ++ (32 ∷ operand))) ≡ said_of_one word operand
-one_said word operand w o = ap said (word_then word operand w ∙ ap (λ (r : List (List ℕ)). word ∷ r) (word_alone operand o))
+one_parsed : (word operand : List ℕ) → Lacks 32 word → Lacks 32 operand → parsed (words_of (word ++ (32 ∷ operand))) ≡ parsed_of_one word operand
+one_parsed word operand w o = ap parsed (word_then word operand w ∙ ap (λ (r : List (List ℕ)). word ∷ r) (word_alone operand o))
 
 record ReadsBack (text : List ℕ) (report : ReportRecord) : Type 0 where
   line : List ℕ
   spelled : text ≡ line ++ codes "\n"
-  parses : said (words_of line) ≡ Some report
+  parses : parsed (words_of line) ≡ Some report
 
 -- ---- names
 
@@ -32,11 +32,11 @@ unfolding is_name
 name_all name is = if_true (has_length NAME_BYTES name) (list_all is_name_byte name) is
 
 hello_read : (name : List ℕ) → is_name name ≡ true → ReadsBack (report_line (HelloReport name)) (HelloReport name)
-unfolding said_of_one name_in
+unfolding parsed_of_one name_in
 hello_read name is = record {
   line = codes "HELLO" ++ (32 ∷ name);
   spelled = sym (append_assoc (codes "HELLO ") name (codes "\n"));
-  parses = one_said (codes "HELLO") name (lacks_by (isnt 32) 32 refl (codes "HELLO") refl) (lacks_by is_name_byte 32 refl name (name_all name is)) ∙ rw is refl;
+  parses = one_parsed (codes "HELLO") name (lacks_by (isnt 32) 32 refl (codes "HELLO") refl) (lacks_by is_name_byte 32 refl name (name_all name is)) ∙ rw is refl;
 }
 
 -- the names after the first
@@ -74,13 +74,13 @@ media_back : (name : List ℕ) (names : List (List ℕ)) → AreMedia (name ∷ 
 unfolding media_in
 media_back name names all = rw (joined_parts name names all, all_media (name ∷ names) all) refl
 
-media_said : (operand : List ℕ) (names : List (List ℕ)) → media_in operand ≡ Some names → said_of_one (codes "MEDIA") operand ≡ Some (MediaReport names)
-unfolding said_of_one
-media_said operand names is = ap (λ (m : Option (List (List ℕ))). option_map MediaReport m) is
+media_parsed : (operand : List ℕ) (names : List (List ℕ)) → media_in operand ≡ Some names → parsed_of_one (codes "MEDIA") operand ≡ Some (MediaReport names)
+unfolding parsed_of_one
+media_parsed operand names is = ap (λ (m : Option (List (List ℕ))). option_map MediaReport m) is
 
-nothing_loaded : said (words_of (codes "MEDIA")) ≡ Some (MediaReport [])
-unfolding said_alone
-nothing_loaded = ap said (word_alone (codes "MEDIA") (lacks_by (isnt 32) 32 refl (codes "MEDIA") refl))
+nothing_loaded : parsed (words_of (codes "MEDIA")) ≡ Some (MediaReport [])
+unfolding parsed_alone
+nothing_loaded = ap parsed (word_alone (codes "MEDIA") (lacks_by (isnt 32) 32 refl (codes "MEDIA") refl))
 
 media_read : (names : List (List ℕ)) → AreMedia names → ReadsBack (report_line (MediaReport names)) (MediaReport names)
 media_read [] all = record { line = codes "MEDIA"; spelled = refl; parses = nothing_loaded }
@@ -89,18 +89,18 @@ media_read (name ∷ names) all =
     record {
       line = codes "MEDIA" ++ (32 ∷ joined name names);
       spelled = sym (append_assoc (codes "MEDIA ") (joined name names) (codes "\n"));
-      parses = one_said (codes "MEDIA") (joined name names) (lacks_by (isnt 32) 32 refl (codes "MEDIA") refl) (joined_lacks 32 name (listed 44 names) (media_lacks 32 name refl (All-head P name names all)) (listed_lacks names (All-tail P name names all))) ∙ media_said (joined name names) (name ∷ names) (media_back name names all);
+      parses = one_parsed (codes "MEDIA") (joined name names) (lacks_by (isnt 32) 32 refl (codes "MEDIA") refl) (joined_lacks 32 name (listed 44 names) (media_lacks 32 name refl (All-head P name names all)) (listed_lacks names (All-tail P name names all))) ∙ media_parsed (joined name names) (name ∷ names) (media_back name names all);
     }
 
 -- ---- words alone
 
 ready_read : ReadsBack (report_line ReadyReport) ReadyReport
-unfolding said_alone
-ready_read = record { line = codes "READY"; spelled = refl; parses = ap said (word_alone (codes "READY") (lacks_by (isnt 32) 32 refl (codes "READY") refl)) }
+unfolding parsed_alone
+ready_read = record { line = codes "READY"; spelled = refl; parses = ap parsed (word_alone (codes "READY") (lacks_by (isnt 32) 32 refl (codes "READY") refl)) }
 
 stop_read : ReadsBack (report_line StopReport) StopReport
-unfolding said_alone
-stop_read = record { line = codes "STOP"; spelled = refl; parses = ap said (word_alone (codes "STOP") (lacks_by (isnt 32) 32 refl (codes "STOP") refl)) }
+unfolding parsed_alone
+stop_read = record { line = codes "STOP"; spelled = refl; parses = ap parsed (word_alone (codes "STOP") (lacks_by (isnt 32) 32 refl (codes "STOP") refl)) }
 
 -- ---- numbers
 
@@ -111,32 +111,32 @@ number_line_is : (word : List ℕ) (number : ℕ) → word ++ (codes " " ++ (dec
 number_line_is word number = sym (append_assoc word (32 ∷ decimal number) (codes "\n"))
 
 busy_read : (time : ℕ) → time ≤ BUSY → ReadsBack (report_line (BusyReport time)) (BusyReport time)
-unfolding said_of_one
+unfolding parsed_of_one
 busy_read time few = record {
   line = codes "BUSY" ++ (32 ∷ decimal time);
   spelled = number_line_is (codes "BUSY") time;
-  parses = one_said (codes "BUSY") (decimal time) (lacks_by (isnt 32) 32 refl (codes "BUSY") refl) (number_space time few) ∙ ap (λ (n : Option ℕ). option_map BusyReport n) (number_back BUSY time few (omega (arith, few)));
+  parses = one_parsed (codes "BUSY") (decimal time) (lacks_by (isnt 32) 32 refl (codes "BUSY") refl) (number_space time few) ∙ ap (λ (n : Option ℕ). option_map BusyReport n) (number_back BUSY time few (omega (arith, few)));
 }
 
 done_read : (job : ℕ) → job ≤ LAST_JOB_ID → ReadsBack (report_line (DoneReport job)) (DoneReport job)
-unfolding said_of_one
+unfolding parsed_of_one
 done_read job few = record {
   line = codes "DONE" ++ (32 ∷ decimal job);
   spelled = number_line_is (codes "DONE") job;
-  parses = one_said (codes "DONE") (decimal job) (lacks_by (isnt 32) 32 refl (codes "DONE") refl) (number_space job few) ∙ ap (λ (n : Option ℕ). option_map DoneReport n) (number_back LAST_JOB_ID job few (omega (arith, few)));
+  parses = one_parsed (codes "DONE") (decimal job) (lacks_by (isnt 32) 32 refl (codes "DONE") refl) (number_space job few) ∙ ap (λ (n : Option ℕ). option_map DoneReport n) (number_back LAST_JOB_ID job few (omega (arith, few)));
 }
 
 fail_read : (job : ℕ) → job ≤ LAST_JOB_ID → ReadsBack (report_line (FailReport job)) (FailReport job)
-unfolding said_of_one
+unfolding parsed_of_one
 fail_read job few = record {
   line = codes "FAIL" ++ (32 ∷ decimal job);
   spelled = number_line_is (codes "FAIL") job;
-  parses = one_said (codes "FAIL") (decimal job) (lacks_by (isnt 32) 32 refl (codes "FAIL") refl) (number_space job few) ∙ ap (λ (n : Option ℕ). option_map FailReport n) (number_back LAST_JOB_ID job few (omega (arith, few)));
+  parses = one_parsed (codes "FAIL") (decimal job) (lacks_by (isnt 32) 32 refl (codes "FAIL") refl) (number_space job few) ∙ ap (λ (n : Option ℕ). option_map FailReport n) (number_back LAST_JOB_ID job few (omega (arith, few)));
 }
 
-pages_said : (job printed : ℕ) → job ≤ LAST_JOB_ID → printed ≤ MOST_PRINTED → said_of_two (codes "PAGES") (decimal job) (decimal printed) ≡ Some (PagesReport job printed)
-unfolding said_of_two
-pages_said job printed few also = rw (number_back LAST_JOB_ID job few (omega (arith, few)), number_back MOST_PRINTED printed also (omega (arith, also))) refl
+pages_parsed : (job printed : ℕ) → job ≤ LAST_JOB_ID → printed ≤ MOST_PRINTED → parsed_of_two (codes "PAGES") (decimal job) (decimal printed) ≡ Some (PagesReport job printed)
+unfolding parsed_of_two
+pages_parsed job printed few also = rw (number_back LAST_JOB_ID job few (omega (arith, few)), number_back MOST_PRINTED printed also (omega (arith, also))) refl
 
 pages_read : (job printed : ℕ) → job ≤ LAST_JOB_ID → printed ≤ MOST_PRINTED → ReadsBack (report_line (PagesReport job printed)) (PagesReport job printed)
 pages_read job printed few also =
@@ -146,7 +146,7 @@ pages_read job printed few also =
     record {
       line = codes "PAGES" ++ (32 ∷ (a ++ (32 ∷ b)));
       spelled = ap (λ (r : List ℕ). codes "PAGES " ++ r) (sym (append_assoc a (32 ∷ b) (codes "\n"))) ∙ sym (append_assoc (codes "PAGES ") (a ++ (32 ∷ b)) (codes "\n"));
-      parses = ap said words ∙ pages_said job printed few also;
+      parses = ap parsed words ∙ pages_parsed job printed few also;
     }
 
 -- ---- any report
@@ -162,5 +162,5 @@ each_read (DoneReport job) has = done_read job has
 each_read (FailReport job) has = fail_read job has
 each_read GoneReport has = absurd has
 
-pub read_back : (report : ReportRecord) → HasLine report → (line : List ℕ) × (report_line report ≡ line ++ codes "\n") × (said (words_of line) ≡ Some report)
+pub read_back : (report : ReportRecord) → HasLine report → (line : List ℕ) × (report_line report ≡ line ++ codes "\n") × (parsed (words_of line) ≡ Some report)
 read_back report has = let it = each_read report has in (it.line, it.spelled, it.parses)

@@ -26,7 +26,7 @@ use Rattle.device_link.specs.Orders.{sides_word, finishings_word, job_line, canc
 use Rattle.adapter_core.specs.declared.order.JobNumbers.{JobNumbers}
 use Rattle.adapter_core.specs.declared.order.Order.{Order}
 use Rattle.adapter_core.specs.declared.order.Order.TheVariants.{Job, Cancel}
-use Rattle.adapter_core.specs.OrderLine.{id_in, octets_in, copies_in, numbers_in, sides_in, finishings_in, job_said, cancel_said, described, said, order_in, above_zero}
+use Rattle.adapter_core.specs.OrderLine.{id_in, octets_in, copies_in, numbers_in, sides_in, finishings_in, job_order, cancel_order, described, parsed, order_in, above_zero}
 use Rattle.adapter_core.specs.OrderStream.{OrderElement, Orders, HasOctet, InLine, ParsedOrders, with_prefix, octets_left, octets_after, line_parsed, parsed_from, orders_in}
 use Rattle.adapter_core.specs.SentOrders.{Wanted, ToPrint, ToCancel, sent, meant, IsWithin, AreWithin, all_sent, all_meant}
 use Rattle.adapter_core.proofs.OrderStreams.{parsed_then, line_whole, octets_first}
@@ -107,18 +107,18 @@ word_alone word lacks = parts_uncut 32 word lacks
 -- ---- the line of a cancel
 
 cancel_back : (id : ℕ) → IsJobId id → order_in (codes "CANCEL " ++ decimal id) ≡ Some (Cancel id)
-unfolding cancel_said
+unfolding cancel_order
 cancel_back id is =
     let fits : id < 2 ^ 64 = omega (arith, is.1) in
     let words : words_of (codes "CANCEL" ++ (32 ∷ decimal id)) ≡ codes "CANCEL" ∷ decimal id ∷ [] = word_then (codes "CANCEL") (decimal id) (lacks_by (isnt 32) 32 refl (codes "CANCEL") refl) ∙ ap (λ (w : List (List ℕ)). codes "CANCEL" ∷ w) (word_alone (decimal id) (decimal_lacks 32 id refl fits)) in
-    ap said words ∙ ap (λ (o : Option ℕ). option_map Cancel o) (id_back id is)
+    ap parsed words ∙ ap (λ (o : Option ℕ). option_map Cancel o) (id_back id is)
 
 -- a line that is one of the server's
 line_ordered : (line : List ℕ) (order : Order) (rest : List ℕ) → Lacks 10 line → length line ≤ 1000 → order_in line ≡ Some order → orders_in (line ++ (10 ∷ rest)) ≡ with_prefix (Orders order ∷ []) (parsed_from (octets_left (octets_after order)) rest)
 line_ordered line order rest lacks short parses =
-    line_whole [] line rest lacks (omega (arith, short)) ∙ ap (λ (o : Option Order). with_prefix (line_parsed o).said (parsed_from (line_parsed o).place rest)) parses
+    line_whole [] line rest lacks (omega (arith, short)) ∙ ap (λ (o : Option Order). with_prefix (line_parsed o).parsed (parsed_from (line_parsed o).place rest)) parses
 
-cancel_parsed : (id : ℕ) → IsJobId id → orders_in (cancel_line id) ≡ record { said = Orders (Cancel id) ∷ []; place = InLine [] }
+cancel_parsed : (id : ℕ) → IsJobId id → orders_in (cancel_line id) ≡ record { parsed = Orders (Cancel id) ∷ []; place = InLine [] }
 cancel_parsed id is =
     let fits : id < 2 ^ 64 = omega (arith, is.1) in
     let line = codes "CANCEL " ++ decimal id in
@@ -154,19 +154,19 @@ media_short media is =
     grind (arith, parts.1)
 
 -- the sides, the medium and the letters of finishings
-some_letters : (numbers : Option JobNumbers) (sides media letters : List ℕ) (finishings : Finishings) → Lacks 32 media → Lacks 32 letters → finishings_in letters ≡ Some finishings → described numbers (sides ∷ words_of (media ++ (32 ∷ letters))) ≡ job_said numbers (sides_in sides) media (Some finishings)
+some_letters : (numbers : Option JobNumbers) (sides media letters : List ℕ) (finishings : Finishings) → Lacks 32 media → Lacks 32 letters → finishings_in letters ≡ Some finishings → described numbers (sides ∷ words_of (media ++ (32 ∷ letters))) ≡ job_order numbers (sides_in sides) media (Some finishings)
 some_letters numbers sides media letters finishings m l is =
     ap (λ (w : List (List ℕ)). described numbers (sides ∷ w)) (word_then media letters m ∙ ap (λ (w : List (List ℕ)). media ∷ w) (word_alone letters l))
-    ∙ ap (λ (f : Option Finishings). job_said numbers (sides_in sides) media f) is
+    ∙ ap (λ (f : Option Finishings). job_order numbers (sides_in sides) media f) is
 
-no_letters : (numbers : Option JobNumbers) (sides media : List ℕ) → Lacks 32 media → described numbers (sides ∷ words_of (media ++ [])) ≡ job_said numbers (sides_in sides) media (Some no_finishings)
+no_letters : (numbers : Option JobNumbers) (sides media : List ℕ) → Lacks 32 media → described numbers (sides ∷ words_of (media ++ [])) ≡ job_order numbers (sides_in sides) media (Some no_finishings)
 no_letters numbers sides media m =
     ap (λ (w : List (List ℕ)). described numbers (sides ∷ w)) (ap words_of (append-nil media) ∙ word_alone media m)
 
 abbrev has : Bool → Bool → Bool → Finishings
 has staple punch bind = record { staple = staple; punch = punch; bind = bind }
 
-sheets_back : (numbers : Option JobNumbers) (sides media : List ℕ) (staple punch bind : Bool) → Lacks 32 media → described numbers (sides ∷ words_of (media ++ finishings_word (has staple punch bind))) ≡ job_said numbers (sides_in sides) media (Some (has staple punch bind))
+sheets_back : (numbers : Option JobNumbers) (sides media : List ℕ) (staple punch bind : Bool) → Lacks 32 media → described numbers (sides ∷ words_of (media ++ finishings_word (has staple punch bind))) ≡ job_order numbers (sides_in sides) media (Some (has staple punch bind))
 unfolding finishings_in
 sheets_back numbers sides media false false false m = no_letters numbers sides media m
 sheets_back numbers sides media false false true m = some_letters numbers sides media (codes "B") (has false false true) m (lacks_by (isnt 32) 32 refl (codes "B") refl) refl
@@ -243,19 +243,19 @@ job_words id octets needs is few some =
 abbrev job_of : ℕ → ℕ → JobNeeds → Order
 job_of id octets needs = Job (record { job = id; octets = octets; copies = needs.copies; sides = needs.sides; finishings = needs.finishings; media = needs.media })
 
-said_back : (id octets : ℕ) (needs : JobNeeds) → is_media needs.media ≡ true → job_said (Some (record { job = id; octets = octets; copies = needs.copies })) (Some needs.sides) needs.media (Some needs.finishings) ≡ Some (job_of id octets needs)
-unfolding job_said
-said_back id octets needs is = rw is refl
+parsed_back : (id octets : ℕ) (needs : JobNeeds) → is_media needs.media ≡ true → job_order (Some (record { job = id; octets = octets; copies = needs.copies })) (Some needs.sides) needs.media (Some needs.finishings) ≡ Some (job_of id octets needs)
+unfolding job_order
+parsed_back id octets needs is = rw is refl
 
 job_back : (id octets : ℕ) (needs : JobNeeds) → IsJobId id → octets ≤ JOB_OCTETS → IsCopies needs.copies → is_media needs.media ≡ true → order_in (on_line id octets needs) ≡ Some (job_of id octets needs)
 job_back id octets needs is few some media =
     let numbers : Option JobNumbers = Some (record { job = id; octets = octets; copies = needs.copies }) in
     let space : Lacks 32 needs.media = lacks_by is_media_byte 32 refl needs.media (media_all needs.media media) in
-    ap said (job_words id octets needs is few some)
+    ap parsed (job_words id octets needs is few some)
     ∙ ap (λ (n : Option JobNumbers). described n (sides_word needs.sides ∷ words_of (needs.media ++ finishings_word needs.finishings))) (numbers_back id octets needs.copies is few some)
     ∙ sheets_back numbers (sides_word needs.sides) needs.media needs.finishings.staple needs.finishings.punch needs.finishings.bind space
-    ∙ ap (λ (s : Option Sides). job_said numbers s needs.media (Some needs.finishings)) (sides_back needs.sides)
-    ∙ said_back id octets needs media
+    ∙ ap (λ (s : Option Sides). job_order numbers s needs.media (Some needs.finishings)) (sides_back needs.sides)
+    ∙ parsed_back id octets needs media
 
 job_short : (id octets : ℕ) (needs : JobNeeds) → IsJobId id → octets ≤ JOB_OCTETS → IsCopies needs.copies → is_media needs.media ≡ true → IsShort 107 (on_line id octets needs)
 job_short id octets needs is few some media =
@@ -289,14 +289,14 @@ job_line_is id octets needs more =
     let all : job_line id octets needs ≡ on_line id octets needs ++ end = ap (tail (codes "JOB")) first ∙ sym (after_then (codes "JOB") (tail a (tail b (tail c (tail s m)))) end) in
     ap (λ (t : List ℕ). t ++ more) all ∙ append_assoc (on_line id octets needs) end more
 
-octets_all : (octets : List ℕ) → parsed_from (octets_left (length octets)) octets ≡ record { said = map HasOctet octets; place = InLine [] }
+octets_all : (octets : List ℕ) → parsed_from (octets_left (length octets)) octets ≡ record { parsed = map HasOctet octets; place = InLine [] }
 octets_all octets =
     let first = octets_first octets [] 0 in
     let count : parsed_from (octets_left (length octets)) (octets ++ []) ≡ with_prefix (map HasOctet octets) (parsed_from (octets_left 0) []) = subst (λ (n : ℕ). parsed_from (octets_left n) (octets ++ []) ≡ with_prefix (map HasOctet octets) (parsed_from (octets_left 0) [])) (add-zero (length octets)) first in
     ap (λ (b : List ℕ). parsed_from (octets_left (length octets)) b) (sym (append-nil octets)) ∙ count
-    ∙ ap (λ (s : List OrderElement). record { said = s; place = InLine [] }) (append-nil (map HasOctet octets))
+    ∙ ap (λ (s : List OrderElement). record { parsed = s; place = InLine [] }) (append-nil (map HasOctet octets))
 
-job_parsed : (id : ℕ) (octets : List ℕ) (needs : JobNeeds) → IsWithin (ToPrint id octets needs) → orders_in (sent (ToPrint id octets needs)) ≡ record { said = meant (ToPrint id octets needs); place = InLine [] }
+job_parsed : (id : ℕ) (octets : List ℕ) (needs : JobNeeds) → IsWithin (ToPrint id octets needs) → orders_in (sent (ToPrint id octets needs)) ≡ record { parsed = meant (ToPrint id octets needs); place = InLine [] }
 job_parsed id octets needs within =
     let is = within.0 in
     let few = within.1 in
@@ -309,12 +309,12 @@ job_parsed id octets needs within =
 
 -- ---- one after the other
 
-parsed_one : (wanted : Wanted) → IsWithin wanted → orders_in (sent wanted) ≡ record { said = meant wanted; place = InLine [] }
+parsed_one : (wanted : Wanted) → IsWithin wanted → orders_in (sent wanted) ≡ record { parsed = meant wanted; place = InLine [] }
 parsed_one (ToPrint id octets needs) within = job_parsed id octets needs within
 parsed_one (ToCancel id) within = cancel_parsed id within
 
-pub parsed_all : (wanted : List Wanted) → AreWithin wanted → orders_in (all_sent wanted) ≡ record { said = all_meant wanted; place = InLine [] }
+pub parsed_all : (wanted : List Wanted) → AreWithin wanted → orders_in (all_sent wanted) ≡ record { parsed = all_meant wanted; place = InLine [] }
 parsed_all [] within = refl
 parsed_all (first ∷ later) within =
-    parsed_then (InLine []) (sent first) (all_sent later) (record { said = meant first; place = InLine [] }) (parsed_one first within.0)
+    parsed_then (InLine []) (sent first) (all_sent later) (record { parsed = meant first; place = InLine [] }) (parsed_one first within.0)
     ∙ ap (λ (h : ParsedOrders). with_prefix (meant first) h) (parsed_all later within.1)

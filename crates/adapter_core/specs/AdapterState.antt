@@ -74,9 +74,9 @@ abbrev pub HasRoom : Option WorkRecord → ℕ → Type 0
 HasRoom None count = ⊥
 HasRoom (Some work) count = length work.came + count ≤ work.octets
 
-abbrev pub said_by : Option Report → List Event
-said_by None = []
-said_by (Some report) = Reported (report_of report) ∷ []
+abbrev pub reported_events : Option Report → List Event
+reported_events None = []
+reported_events (Some report) = Reported (report_of report) ∷ []
 
 -- a job that the printer has printed is done if it was sent as often as it was to be
 abbrev pub end_report : WorkRecord → ReportRecord

@@ -64,28 +64,28 @@ finishings_in word =
     else None
 
 -- the job of these parts
-unfoldable pub job_said : Option JobNumbers → Option Sides → List ℕ → Option Finishings → Option Order
-job_said None sides media finishings = None
-job_said (Some numbers) None media finishings = None
-job_said (Some numbers) (Some sides) media None = None
-job_said (Some numbers) (Some sides) media (Some finishings) =
+unfoldable pub job_order : Option JobNumbers → Option Sides → List ℕ → Option Finishings → Option Order
+job_order None sides media finishings = None
+job_order (Some numbers) None media finishings = None
+job_order (Some numbers) (Some sides) media None = None
+job_order (Some numbers) (Some sides) media (Some finishings) =
     if is_media media then Some (Job (record { job = numbers.job; octets = numbers.octets; copies = numbers.copies; sides = sides; finishings = finishings; media = media }))
     else None
 
-unfoldable pub cancel_said : List ℕ → List ℕ → Option Order
-cancel_said word job = if bytes_eq word (codes "CANCEL") then option_map Cancel (id_in job) else None
+unfoldable pub cancel_order : List ℕ → List ℕ → Option Order
+cancel_order word job = if bytes_eq word (codes "CANCEL") then option_map Cancel (id_in job) else None
 
 -- the sides, the medium and the finishings, if there are any, after the numbers of a job
 abbrev pub described : Option JobNumbers → List (List ℕ) → Option Order
-described numbers (sides ∷ media ∷ []) = job_said numbers (sides_in sides) media (Some no_finishings)
-described numbers (sides ∷ media ∷ finishings ∷ []) = job_said numbers (sides_in sides) media (finishings_in finishings)
+described numbers (sides ∷ media ∷ []) = job_order numbers (sides_in sides) media (Some no_finishings)
+described numbers (sides ∷ media ∷ finishings ∷ []) = job_order numbers (sides_in sides) media (finishings_in finishings)
 described numbers words = None
 
-abbrev pub said : List (List ℕ) → Option Order
-said (word ∷ job ∷ []) = cancel_said word job
-said (word ∷ job ∷ octets ∷ copies ∷ rest) = described (numbers_in word job octets copies) rest
-said words = None
+abbrev pub parsed : List (List ℕ) → Option Order
+parsed (word ∷ job ∷ []) = cancel_order word job
+parsed (word ∷ job ∷ octets ∷ copies ∷ rest) = described (numbers_in word job octets copies) rest
+parsed words = None
 
 -- the order in a line, if it is one of the server's
 abbrev pub order_in : List ℕ → Option Order
-order_in line = said (words_of line)
+order_in line = parsed (words_of line)

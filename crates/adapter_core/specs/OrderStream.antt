@@ -23,14 +23,14 @@ pub data OrderPlace : Type 0 where
   AtFault : OrderFault → OrderPlace
 
 pub record ParsedOrders : Type 0 where
-  pub said : List OrderElement
+  pub parsed : List OrderElement
   pub place : OrderPlace
 
 abbrev pub with_prefix : List OrderElement → ParsedOrders → ParsedOrders
-with_prefix prefix later = record { said = prefix ++ later.said; place = later.place }
+with_prefix prefix later = record { parsed = prefix ++ later.parsed; place = later.place }
 
 abbrev pub silent : OrderPlace → ParsedOrders
-silent place = record { said = []; place = place }
+silent place = record { parsed = []; place = place }
 
 abbrev pub octets_left : ℕ → OrderPlace
 octets_left count = if count == 0 then InLine [] else InJob count
@@ -42,7 +42,7 @@ octets_after (Cancel id) = 0
 
 abbrev pub line_parsed : Option Order → ParsedOrders
 line_parsed None = silent (AtFault BadLine)
-line_parsed (Some order) = record { said = Orders order ∷ []; place = octets_left (octets_after order) }
+line_parsed (Some order) = record { parsed = Orders order ∷ []; place = octets_left (octets_after order) }
 
 -- a line and its line feed together have at most DEVICE_LINE_BYTES bytes
 abbrev pub line_grown : List ℕ → ℕ → ParsedOrders
@@ -51,13 +51,13 @@ line_grown line byte = if nat_lt (length line + 1) DEVICE_LINE_BYTES then silent
 -- the parse of the next byte
 unfoldable pub byte_parsed : OrderPlace → ℕ → ParsedOrders
 byte_parsed (InLine line) byte = if byte == 10 then line_parsed (order_in line) else line_grown line byte
-byte_parsed (InJob count) byte = record { said = HasOctet byte ∷ []; place = octets_left (count - 1) }
+byte_parsed (InJob count) byte = record { parsed = HasOctet byte ∷ []; place = octets_left (count - 1) }
 byte_parsed (AtFault fault) byte = silent (AtFault fault)
 
 -- the parse of bytes from a place on
 abbrev pub parsed_from : OrderPlace → List ℕ → ParsedOrders
 parsed_from place [] = silent place
-parsed_from place (byte ∷ bytes) = with_prefix (byte_parsed place byte).said (parsed_from (byte_parsed place byte).place bytes)
+parsed_from place (byte ∷ bytes) = with_prefix (byte_parsed place byte).parsed (parsed_from (byte_parsed place byte).place bytes)
 
 -- the parse of a whole stream of bytes
 abbrev pub orders_in : List ℕ → ParsedOrders
@@ -83,7 +83,7 @@ HasRead stream given reader = orders_in stream ≡ with_prefix given (parsed_fro
 
 -- the reader went from one state to another and gave this from its stream
 abbrev pub Advances : OrderReaderState → List OrderElement → OrderReaderState → Type 0
-Advances old said new = (stream : List ℕ) (given : List OrderElement) → HasRead stream given old → HasRead stream (given ++ said) new
+Advances old parsed new = (stream : List ℕ) (given : List OrderElement) → HasRead stream given old → HasRead stream (given ++ parsed) new
 
 -- the elements of an item, with the part that the reader lends
 abbrev pub elements_of : OrderItem → List ℕ → List OrderElement
@@ -96,9 +96,9 @@ work reader = length reader.rest
 
 -- the answer of a reader, and its state then: the next item of the stream; or none, and then the stream contains no more; or a fault; or refused memory
 abbrev pub Answers : OrderReaderState → Result (Option OrderItem) OrderError → OrderReaderState → Type 0
-Answers old (Ok (Some said)) new = Advances old (elements_of said new.part) new
-Answers old (Ok None) new = (new ≡ old) × ((stream : List ℕ) (given : List OrderElement) → HasRead stream given old → (orders_in stream).said ≡ given)
+Answers old (Ok (Some parsed)) new = Advances old (elements_of parsed new.part) new
+Answers old (Ok None) new = (new ≡ old) × ((stream : List ℕ) (given : List OrderElement) → HasRead stream given old → (orders_in stream).parsed ≡ given)
 Answers old (Err (Fault fault)) new =
     (new ≡ record old { fault = Some fault })
-    × ((stream : List ℕ) (given : List OrderElement) → HasRead stream given old → (orders_in stream ≡ record { said = given; place = AtFault fault }) × HasRead stream given new)
+    × ((stream : List ℕ) (given : List OrderElement) → HasRead stream given old → (orders_in stream ≡ record { parsed = given; place = AtFault fault }) × HasRead stream given new)
 Answers old (Err OutOfMemory) new = new ≡ old

@@ -25,26 +25,26 @@ abbrev pub device_of : Option ℕ → PjlStatus
 device_of None = Other
 device_of (Some code) = Device code
 
-abbrev pub page_said : List ℕ → PjlStatus
-page_said line = page_of (number_in line)
+abbrev pub page_status : List ℕ → PjlStatus
+page_status line = page_of (number_in line)
 
-unfoldable pub job_said : List ℕ → PjlStatus
-job_said line = if bytes_eq line (codes "END") then JobEnded else Other
+unfoldable pub job_status : List ℕ → PjlStatus
+job_status line = if bytes_eq line (codes "END") then JobEnded else Other
 
-abbrev pub device_said : List ℕ → PjlStatus
-device_said line = device_of (code_in line)
+abbrev pub device_status : List ℕ → PjlStatus
+device_status line = device_of (code_in line)
 
-unfoldable pub said : List ℕ → List ℕ → PjlStatus
-said first second =
-    if bytes_eq first (codes "@PJL USTATUS PAGE") then page_said second
-    else if bytes_eq first (codes "@PJL USTATUS JOB") then job_said second
-    else if bytes_eq first (codes "@PJL USTATUS DEVICE") || bytes_eq first (codes "@PJL INFO STATUS") then device_said second
+unfoldable pub status_of : List ℕ → List ℕ → PjlStatus
+status_of first second =
+    if bytes_eq first (codes "@PJL USTATUS PAGE") then page_status second
+    else if bytes_eq first (codes "@PJL USTATUS JOB") then job_status second
+    else if bytes_eq first (codes "@PJL USTATUS DEVICE") || bytes_eq first (codes "@PJL INFO STATUS") then device_status second
     else Other
 
-abbrev pub lines_said : List (List ℕ) → PjlStatus
-lines_said (first ∷ second ∷ more) = said (bare first) (bare second)
-lines_said lines = Other
+abbrev pub lines_status : List (List ℕ) → PjlStatus
+lines_status (first ∷ second ∷ more) = status_of (bare first) (bare second)
+lines_status lines = Other
 
 -- the status in a message, without its form feed
 abbrev pub status_in : List ℕ → PjlStatus
-status_in message = lines_said (texts_of message)
+status_in message = lines_status (texts_of message)

@@ -20,12 +20,12 @@ grown place byte =
 abbrev pub place_after : PjlPlace → ℕ → PjlPlace
 place_after place byte = if byte == 12 then start else grown place byte
 
-abbrev pub message_said : PjlPlace → Option PjlStatus
-message_said place = if place.skips then None else Some (status_in place.message)
+abbrev pub message_status : PjlPlace → Option PjlStatus
+message_status place = if place.skips then None else Some (status_in place.message)
 
 -- the status that ends with a byte
 abbrev pub status_at : PjlPlace → ℕ → Option PjlStatus
-status_at place byte = if byte == 12 then message_said place else None
+status_at place byte = if byte == 12 then message_status place else None
 
 abbrev pub with_first : Option PjlStatus → List PjlStatus → List PjlStatus
 with_first None later = later

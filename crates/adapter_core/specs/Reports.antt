@@ -5,7 +5,7 @@ use Rattle.base_types.specs.declared.limits.TheConstants.Limits.{LAST_JOB_ID, BU
 use Rattle.base_types.specs.Forms.{is_name, is_media}
 use Rattle.base_types.specs.Report.{ReportRecord, HelloReport, MediaReport, ReadyReport, StopReport, BusyReport, PagesReport, DoneReport, FailReport, GoneReport}
 use Rattle.device_link.specs.declared.number.TheConstants.{MOST_PRINTED}
-use Rattle.device_link.specs.Line.{said}
+use Rattle.device_link.specs.Line.{parsed}
 use Rattle.text.specs.Parts.{words_of}
 
 abbrev pub hello_line : List ℕ → List ℕ
@@ -51,4 +51,4 @@ HasLine GoneReport = ⊥
 
 -- the line of a report, without its line feed, is read as exactly that report
 abbrev pub ReadAsMeant : Type 0
-ReadAsMeant = (report : ReportRecord) → HasLine report → (line : List ℕ) × (report_line report ≡ line ++ codes "\n") × (said (words_of line) ≡ Some report)
+ReadAsMeant = (report : ReportRecord) → HasLine report → (line : List ℕ) × (report_line report ≡ line ++ codes "\n") × (parsed (words_of line) ≡ Some report)

@@ -43,4 +43,4 @@ all_meant (first ∷ later) = meant first ++ all_meant later
 
 -- the bytes of orders are read as their items, and the next line may follow
 abbrev pub ParsedAsMeant : Type 0
-ParsedAsMeant = (wanted : List Wanted) → AreWithin wanted → orders_in (all_sent wanted) ≡ record { said = all_meant wanted; place = InLine [] }
+ParsedAsMeant = (wanted : List Wanted) → AreWithin wanted → orders_in (all_sent wanted) ≡ record { parsed = all_meant wanted; place = InLine [] }

@@ -2,7 +2,7 @@
 ghost use Rattle.std.specs.Prelude.{ℕ, ◌≡◌, ◌<◌, ◌≤◌, [], ◌∷◌, None, Some, IfSome, OnOk, OnErr, true, take, length, option_map};
 ghost use Rattle.base_types.specs.Report.{report_of};
 ghost use Rattle.adapter_core.specs.Life.{Links, Ordered, Came, Canceled, Sent, EndsCopy, Restarts, Printed, Is};
-ghost use Rattle.adapter_core.specs.AdapterState.{IsAfter, Lives, HasRoom, copy_sent_in, is_sent_in, due_in, end_report, fail_report, pages_report, state_report, id_of, said_by, begun, with_came, with_sent, with_copy, with_restart, with_cancel, changed};
+ghost use Rattle.adapter_core.specs.AdapterState.{IsAfter, Lives, HasRoom, copy_sent_in, is_sent_in, due_in, end_report, fail_report, pages_report, state_report, id_of, reported_events, begun, with_came, with_sent, with_copy, with_restart, with_cancel, changed};
 
 use crate::printer_state::PrinterState;
 use crate::work::Work;
@@ -154,7 +154,7 @@ impl AdapterState {
 
     /// The report that the printer has printed this many impressions of the job, all copies together.
     pub fn pages(&self, printed: u32) -> Option<Report>
-        ensures life { Lives self.now (said_by result) self.now }
+        ensures life { Lives self.now (reported_events result) self.now }
         ensures value { option_map report_of result ≡ option_map (pages_report printed) self.now.work }
     {
         match &self.work {
@@ -166,7 +166,7 @@ impl AdapterState {
     /// The report that the printer has printed the job: DONE if it was sent as often as it is to be, else
     /// FAIL. The job is not in hand any more.
     pub fn finish(&mut self) -> Option<Report>
-        ensures life { Lives self.old (Printed ∷ said_by result) self.new }
+        ensures life { Lives self.old (Printed ∷ reported_events result) self.new }
         ensures value { option_map report_of result ≡ option_map end_report self.old.work }
         ensures none { self.new.work ≡ None }
     {
@@ -177,7 +177,7 @@ impl AdapterState {
 
     /// The report that the job can't be printed: FAIL. The job is not in hand any more.
     pub fn fail(&mut self) -> Option<Report>
-        ensures life { Lives self.old (said_by result) self.new }
+        ensures life { Lives self.old (reported_events result) self.new }
         ensures value { option_map report_of result ≡ option_map fail_report self.old.work }
         ensures none { self.new.work ≡ None }
     {
@@ -196,7 +196,7 @@ impl AdapterState {
 
     /// The report of the printer's state, if the server doesn't know it.
     pub fn next_report(&mut self) -> Option<Report>
-        ensures life { Lives self.old (said_by result) self.new }
+        ensures life { Lives self.old (reported_events result) self.new }
         ensures value { option_map report_of result ≡ state_report self.old.printer self.old.reported }
         ensures stays { self.new.work ≡ self.old.work }
     {

@@ -66,9 +66,9 @@ impl LoadedMedia {
         if is_reported(names, &self.reported) {
             return Ok(None);
         }
-        let said = copied(self.alloc, names)?;
+        let media = copied(self.alloc, names)?;
         self.reported = Some(copied(self.alloc, names)?);
-        Ok(Some(Report::Media(said)))
+        Ok(Some(Report::Media(media)))
     }
 }
 

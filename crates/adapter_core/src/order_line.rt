@@ -2,7 +2,7 @@
 ghost use Rattle.std.specs.Prelude.{◌≡◌, ◌∷◌, [], None, IfOk};
 ghost use Rattle.std.specs.Option.{option_map_or};
 ghost use Rattle.text.specs.Parts.{words_of};
-ghost use Rattle.adapter_core.specs.OrderLine.{id_in, octets_in, copies_in, numbers_in, sides_in, begins_with, after_letter, finishings_in, job_said, cancel_said, described, said, order_in};
+ghost use Rattle.adapter_core.specs.OrderLine.{id_in, octets_in, copies_in, numbers_in, sides_in, begins_with, after_letter, finishings_in, job_order, cancel_order, described, parsed, order_in};
 
 use crate::order::{JobNumbers, JobOrder, Order};
 use base_types::{Finishings, JobId, Limits, Sides, Text, is_media};
@@ -36,9 +36,9 @@ fn split_word(text: &[u8]) -> (&[u8], Option<&[u8]>)
 }
 
 /// Reads the order of a word and its one operand.
-#[tactic(auto, unfolding(crate::specs::OrderLine::cancel_said))]
+#[tactic(auto, unfolding(crate::specs::OrderLine::cancel_order))]
 fn read_cancel(word: &[u8], job: &[u8]) -> Option<Order>
-    ensures { result ≡ cancel_said word.now job.now }
+    ensures { result ≡ cancel_order word.now job.now }
 {
     if word != b"CANCEL".as_slice() {
         return None;
@@ -54,7 +54,7 @@ fn read_numbers(
     job: &[u8],
     operands: &[u8],
 ) -> Result<Option<Order>, AllocError>
-    ensures { IfOk result (λ order. order ≡ said (word.now ∷ job.now ∷ words_of operands.now)) }
+    ensures { IfOk result (λ order. order ≡ parsed (word.now ∷ job.now ∷ words_of operands.now)) }
 {
     let (octets, operands) = split_word(operands);
     let Some(operands) = operands else {
@@ -104,7 +104,7 @@ fn read_sheets(
 }
 
 /// The job of these parts, if each is valid.
-#[tactic(auto, unfolding(crate::specs::OrderLine::job_said))]
+#[tactic(auto, unfolding(crate::specs::OrderLine::job_order))]
 fn read_job(
     alloc: Global,
     numbers: Option<JobNumbers>,
@@ -112,7 +112,7 @@ fn read_job(
     media: &[u8],
     finishings: Option<Finishings>,
 ) -> Result<Option<Order>, AllocError>
-    ensures { IfOk result (λ order. order ≡ job_said numbers sides media.now finishings) }
+    ensures { IfOk result (λ order. order ≡ job_order numbers sides media.now finishings) }
 {
     let Some(numbers) = numbers else {
         return Ok(None);

@@ -2,7 +2,7 @@
 ghost use Rattle.std.specs.Prelude.{◌≡◌, ◌∷◌, []};
 ghost use Rattle.std.specs.Option.{option_map_or};
 ghost use Rattle.text.specs.Parts.{texts_of};
-ghost use Rattle.adapter_core.specs.PjlMessage.{bare, number_in, code_in, page_said, job_said, device_said, said, status_in};
+ghost use Rattle.adapter_core.specs.PjlMessage.{bare, number_in, code_in, page_status, job_status, device_status, status_of, status_in};
 
 use crate::pjl_status::PjlStatus;
 use text::{cut_at, number_up_to};
@@ -41,9 +41,9 @@ fn bare(line: &[u8]) -> &[u8]
 }
 
 /// The status in the first two lines of a message.
-#[tactic(auto, unfolding(crate::specs::PjlMessage::said))]
+#[tactic(auto, unfolding(crate::specs::PjlMessage::status_of))]
 fn read_lines(first: &[u8], second: &[u8]) -> PjlStatus
-    ensures { result ≡ said first.now second.now }
+    ensures { result ≡ status_of first.now second.now }
 {
     if first == b"@PJL USTATUS PAGE".as_slice() {
         read_page(second)
@@ -60,7 +60,7 @@ fn read_lines(first: &[u8], second: &[u8]) -> PjlStatus
 
 /// The status of a printed page.
 fn read_page(line: &[u8]) -> PjlStatus
-    ensures { result ≡ page_said line.now }
+    ensures { result ≡ page_status line.now }
 {
     match number_in(line) {
         Some(page) => PjlStatus::Page(page),
@@ -69,9 +69,9 @@ fn read_page(line: &[u8]) -> PjlStatus
 }
 
 /// The status of a job.
-#[tactic(auto, unfolding(crate::specs::PjlMessage::job_said))]
+#[tactic(auto, unfolding(crate::specs::PjlMessage::job_status))]
 fn read_job(line: &[u8]) -> PjlStatus
-    ensures { result ≡ job_said line.now }
+    ensures { result ≡ job_status line.now }
 {
     if line == b"END".as_slice() {
         PjlStatus::JobEnded
@@ -82,7 +82,7 @@ fn read_job(line: &[u8]) -> PjlStatus
 
 /// The status of the printer.
 fn read_device(line: &[u8]) -> PjlStatus
-    ensures { result ≡ device_said line.now }
+    ensures { result ≡ device_status line.now }
 {
     match code_in(line) {
         Some(code) => PjlStatus::Device(code),

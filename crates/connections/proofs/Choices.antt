@@ -42,7 +42,7 @@ pub record Laws : Type 0 where
   pub lpd_ends : Lpd.NoneFollows
   pub link : Link.FirstIsOne
   pub link_ends : Link.NoneFollows
-  pub asked : (body : List ℕ) (given said : ParsedRequest) → Asks body given → Asks body said → given ≡ said
+  pub asked : (body : List ℕ) (given parsed : ParsedRequest) → Asks body given → Asks body parsed → given ≡ parsed
 
 -- ---- asks with the same content
 
@@ -51,14 +51,14 @@ ask_self (ask.Event client event) = (refl, same_self event)
 ask_self (ask.Report device report) = (refl, refl)
 ask_self what = refl
 
-ask_as : (asked what said : Ask) → what ≡ asked → said ≡ asked → SameAsk what said
-ask_as asked what said a b = subst (λ (x : Ask). SameAsk what x) (a ∙ sym b) (ask_self what)
+ask_as : (asked what parsed : Ask) → what ≡ asked → parsed ≡ asked → SameAsk what parsed
+ask_as asked what parsed a b = subst (λ (x : Ask). SameAsk what x) (a ∙ sym b) (ask_self what)
 
 -- ---- steps that agree
 
 -- wherever both lose the same, they ask the same and leave one entry
 abbrev Agree : Step → Entry → Step → Entry → Type 0
-Agree one mid other mid' = (what said : Ask) (new after : Entry) → StepsTo one mid what new → StepsTo other mid' said after → lost_of what ≡ lost_of said → SameAsk what said × (new ≡ after)
+Agree one mid other mid' = (what parsed : Ask) (new after : Entry) → StepsTo one mid what new → StepsTo other mid' parsed after → lost_of what ≡ lost_of parsed → SameAsk what parsed × (new ≡ after)
 
 no_loss : (loss : Loss) → None ≡ Some loss → ⊥
 no_loss loss is = cc
@@ -69,21 +69,21 @@ output_lost what is = ap lost_of is
 nothing_lost : (what : Ask) → what ≡ ask.Nothing → lost_of what ≡ None
 nothing_lost what is = ap lost_of is
 
-owes_one : (bytes : List ℕ) (e : Entry) (what said : Ask) (new after : Entry) → Owes bytes e what new → Owes bytes e said after → lost_of what ≡ lost_of said → SameAsk what said × (new ≡ after)
-owes_one bytes e what said new after (inl a) (inl b) same = (ask_as ask.Nothing what said a.0 b.0, a.1 ∙ sym b.1)
-owes_one bytes e what said new after (inl a) (inr b) same = absurd (no_loss (OfGrowth growth.Output) (sym (nothing_lost what a.0) ∙ same ∙ output_lost said b.0))
-owes_one bytes e what said new after (inr a) (inl b) same = absurd (no_loss (OfGrowth growth.Output) (sym (nothing_lost said b.0) ∙ sym same ∙ output_lost what a.0))
-owes_one bytes e what said new after (inr a) (inr b) same = (ask_as (ask.Broke growth.Output) what said a.0 b.0, a.2 ∙ sym b.2)
+owes_one : (bytes : List ℕ) (e : Entry) (what parsed : Ask) (new after : Entry) → Owes bytes e what new → Owes bytes e parsed after → lost_of what ≡ lost_of parsed → SameAsk what parsed × (new ≡ after)
+owes_one bytes e what parsed new after (inl a) (inl b) same = (ask_as ask.Nothing what parsed a.0 b.0, a.1 ∙ sym b.1)
+owes_one bytes e what parsed new after (inl a) (inr b) same = absurd (no_loss (OfGrowth growth.Output) (sym (nothing_lost what a.0) ∙ same ∙ output_lost parsed b.0))
+owes_one bytes e what parsed new after (inr a) (inl b) same = absurd (no_loss (OfGrowth growth.Output) (sym (nothing_lost parsed b.0) ∙ sym same ∙ output_lost what a.0))
+owes_one bytes e what parsed new after (inr a) (inr b) same = (ask_as (ask.Broke growth.Output) what parsed a.0 b.0, a.2 ∙ sym b.2)
 
 -- a step agrees with itself
 agree_self : (comes : Step) (mid : Entry) → Agree comes mid comes mid
-agree_self (step.Due due last) mid what said new after a b same = owes_one (due_bytes due) (finishing last mid) what said new after a b same
-agree_self (step.Asks asked last) mid what said new after a b same = (ask_as asked what said a.0 b.0, a.1 ∙ sym b.1)
-agree_self (step.Breaks asked) mid what said new after a b same = (ask_as asked what said a.0 b.0, a.1 ∙ sym b.1)
+agree_self (step.Due due last) mid what parsed new after a b same = owes_one (due_bytes due) (finishing last mid) what parsed new after a b same
+agree_self (step.Asks asked last) mid what parsed new after a b same = (ask_as asked what parsed a.0 b.0, a.1 ∙ sym b.1)
+agree_self (step.Breaks asked) mid what parsed new after a b same = (ask_as asked what parsed a.0 b.0, a.1 ∙ sym b.1)
 
 agree_asks : (asked other : Ask) (last : Bool) (mid : Entry) → SameAsk asked other → Agree (step.Asks asked last) mid (step.Asks other last) mid
-agree_asks asked other last mid is what said new after a b same =
-    (subst (λ (x : Ask). SameAsk x said) (sym a.0) (subst (λ (x : Ask). SameAsk asked x) (sym b.0) is), a.1 ∙ sym b.1)
+agree_asks asked other last mid is what parsed new after a b same =
+    (subst (λ (x : Ask). SameAsk x parsed) (sym a.0) (subst (λ (x : Ask). SameAsk asked x) (sym b.0) is), a.1 ∙ sym b.1)
 
 -- steps that are these, at entries that are these
 agree_as : (comes comes' one other : Step) (mid mid' e : Entry) → comes ≡ one → comes' ≡ other → mid ≡ e → mid' ≡ e → Agree one e other e → Agree comes mid comes' mid'
@@ -114,8 +114,8 @@ loses (step.Breaks asked) mid what new a = ap lost_of a.0
 
 -- two steps without a common loss agree
 agree_never : (comes comes' : Step) (mid mid' : Entry) → ((loss : Option Loss) → Loses comes loss → Loses comes' loss → ⊥) → Agree comes mid comes' mid'
-agree_never comes comes' mid mid' never what said new after a b same =
-    absurd (never (lost_of what) (loses comes mid what new a) (subst (λ (l : Option Loss). Loses comes' l) (sym same) (loses comes' mid' said after b)))
+agree_never comes comes' mid mid' never what parsed new after a b same =
+    absurd (never (lost_of what) (loses comes mid what new a) (subst (λ (l : Option Loss). Loses comes' l) (sym same) (loses comes' mid' parsed after b)))
 
 -- at most the growth of its output, or a job
 abbrev IsUsual : Option Loss → Type 0
@@ -156,28 +156,28 @@ no_memory_agrees comes comes' mid mid' is usual =
 
 -- an item and its part, by their elements
 
-abbrev said_long : Option ℕ → ℕ
-said_long None = 1
-said_long (Some long) = long
+abbrev parsed_long : Option ℕ → ℕ
+parsed_long None = 1
+parsed_long (Some long) = long
 
-long_is : (it : HttpItem) (part : List ℕ) → length (elements_of it part) ≡ said_long (part_taken it part)
+long_is : (it : HttpItem) (part : List ℕ) → length (elements_of it part) ≡ parsed_long (part_taken it part)
 long_is (item.Head closes) part = refl
 long_is item.Continue part = refl
 long_is item.BodyPart part = length-map part HasByte
 long_is item.BodyEnd part = refl
 long_is (item.Refuse refusal) part = refl
 
-abbrev item_said : List HttpElement → HttpItem
-item_said (HasHead closes ∷ later) = item.Head closes
-item_said (Invites ∷ later) = item.Continue
-item_said (EndsBody ∷ later) = item.BodyEnd
-item_said (IsRefused refusal ∷ later) = item.Refuse refusal
-item_said (HasByte byte ∷ later) = item.BodyPart
-item_said [] = item.BodyPart
+abbrev item_parsed : List HttpElement → HttpItem
+item_parsed (HasHead closes ∷ later) = item.Head closes
+item_parsed (Invites ∷ later) = item.Continue
+item_parsed (EndsBody ∷ later) = item.BodyEnd
+item_parsed (IsRefused refusal ∷ later) = item.Refuse refusal
+item_parsed (HasByte byte ∷ later) = item.BodyPart
+item_parsed [] = item.BodyPart
 
 abbrev item_of : Option ℕ → List HttpElement → HttpItem
-item_of None said = item_said said
-item_of (Some long) said = item.BodyPart
+item_of None parsed = item_parsed parsed
+item_of (Some long) parsed = item.BodyPart
 
 item_is : (it : HttpItem) (part : List ℕ) → item_of (part_taken it part) (elements_of it part) ≡ it
 item_is (item.Head closes) part = refl
@@ -186,29 +186,29 @@ item_is item.BodyPart part = refl
 item_is item.BodyEnd part = refl
 item_is (item.Refuse refusal) part = refl
 
-abbrev bytes_said : List HttpElement → List ℕ
-bytes_said [] = []
-bytes_said (HasByte byte ∷ later) = byte ∷ bytes_said later
-bytes_said (HasHead closes ∷ later) = []
-bytes_said (Invites ∷ later) = []
-bytes_said (EndsBody ∷ later) = []
-bytes_said (IsRefused refusal ∷ later) = []
+abbrev bytes_parsed : List HttpElement → List ℕ
+bytes_parsed [] = []
+bytes_parsed (HasByte byte ∷ later) = byte ∷ bytes_parsed later
+bytes_parsed (HasHead closes ∷ later) = []
+bytes_parsed (Invites ∷ later) = []
+bytes_parsed (EndsBody ∷ later) = []
+bytes_parsed (IsRefused refusal ∷ later) = []
 
-bytes_are : (part : List ℕ) → bytes_said (map HasByte part) ≡ part
+bytes_are : (part : List ℕ) → bytes_parsed (map HasByte part) ≡ part
 bytes_are [] = refl
 bytes_are (byte ∷ part) = ap (λ (bytes : List ℕ). byte ∷ bytes) (bytes_are part)
 
 -- the entry after an item with these elements
 abbrev after_item : HttpItem → List HttpElement → Entry → List HttpElement → Bool → List ℕ → Step → Entry
-after_item it added e said closes body what = with_progress (OfIpp (said ++ added) (closes_after it closes) (body_after it what (bytes_said added) body)) e
+after_item it added e parsed closes body what = with_progress (OfIpp (parsed ++ added) (closes_after it closes) (body_after it what (bytes_parsed added) body)) e
 
-after_is : (it : HttpItem) (part : List ℕ) (e : Entry) (said : List HttpElement) (closes : Bool) (body : List ℕ) (what : Step)
-    → with_progress (OfIpp (said ++ elements_of it part) (closes_after it closes) (body_after it what part body)) e ≡ after_item it (elements_of it part) e said closes body what
-after_is (item.Head next) part e said closes body what = refl
-after_is item.Continue part e said closes body what = refl
-after_is item.BodyPart part e said closes body what = ap (λ (bytes : List ℕ). with_progress (OfIpp (said ++ map HasByte part) closes (body_after item.BodyPart what bytes body)) e) (sym (bytes_are part))
-after_is item.BodyEnd part e said closes body what = refl
-after_is (item.Refuse refusal) part e said closes body what = refl
+after_is : (it : HttpItem) (part : List ℕ) (e : Entry) (parsed : List HttpElement) (closes : Bool) (body : List ℕ) (what : Step)
+    → with_progress (OfIpp (parsed ++ elements_of it part) (closes_after it closes) (body_after it what part body)) e ≡ after_item it (elements_of it part) e parsed closes body what
+after_is (item.Head next) part e parsed closes body what = refl
+after_is item.Continue part e parsed closes body what = refl
+after_is item.BodyPart part e parsed closes body what = ap (λ (bytes : List ℕ). with_progress (OfIpp (parsed ++ map HasByte part) closes (body_after item.BodyPart what bytes body)) e) (sym (bytes_are part))
+after_is item.BodyEnd part e parsed closes body what = refl
+after_is (item.Refuse refusal) part e parsed closes body what = refl
 
 silent_usual : (comes : Step) → comes ≡ silent → (loss : Option Loss) → Loses comes loss → IsUsual loss
 silent_usual comes is loss a = loses_usual comes silent loss is a due_usual
@@ -239,27 +239,27 @@ part_agrees comes comes' after (inr a) (inl b) = no_memory_agrees comes comes' (
 part_agrees comes comes' after (inr a) (inr b) = agree_at comes comes' no_memory (after comes) (after comes') (after no_memory) a b (ap after a) (ap after b)
 
 -- two steps of one item agree
-item_agrees : Laws → (it : HttpItem) (added : List HttpElement) (e : Entry) (said : List HttpElement) (closes : Bool) (body : List ℕ) (comes comes' : Step) → StepsIpp it closes body comes → StepsIpp it closes body comes'
-    → Agree comes (after_item it added e said closes body comes) comes' (after_item it added e said closes body comes')
-item_agrees laws (item.Head next) added e said closes body comes comes' a b = agree_at comes comes' silent _ _ (after_item (item.Head next) added e said closes body silent) a b refl refl
-item_agrees laws item.Continue added e said closes body comes comes' a b = agree_at comes comes' (step.Due due.Continue false) _ _ (after_item item.Continue added e said closes body silent) a b refl refl
-item_agrees laws item.BodyPart added e said closes body comes comes' a b = part_agrees comes comes' (after_item item.BodyPart added e said closes body) a b
-item_agrees laws item.BodyEnd added e said closes body comes comes' a b = ends_agree laws closes body comes comes' (after_item item.BodyEnd added e said closes body silent) a b
-item_agrees laws (item.Refuse refusal) added e said closes body comes comes' a b = agree_at comes comes' (step.Due (due.Refusal refusal) true) _ _ (after_item (item.Refuse refusal) added e said closes body silent) a b refl refl
+item_agrees : Laws → (it : HttpItem) (added : List HttpElement) (e : Entry) (parsed : List HttpElement) (closes : Bool) (body : List ℕ) (comes comes' : Step) → StepsIpp it closes body comes → StepsIpp it closes body comes'
+    → Agree comes (after_item it added e parsed closes body comes) comes' (after_item it added e parsed closes body comes')
+item_agrees laws (item.Head next) added e parsed closes body comes comes' a b = agree_at comes comes' silent _ _ (after_item (item.Head next) added e parsed closes body silent) a b refl refl
+item_agrees laws item.Continue added e parsed closes body comes comes' a b = agree_at comes comes' (step.Due due.Continue false) _ _ (after_item item.Continue added e parsed closes body silent) a b refl refl
+item_agrees laws item.BodyPart added e parsed closes body comes comes' a b = part_agrees comes comes' (after_item item.BodyPart added e parsed closes body) a b
+item_agrees laws item.BodyEnd added e parsed closes body comes comes' a b = ends_agree laws closes body comes comes' (after_item item.BodyEnd added e parsed closes body silent) a b
+item_agrees laws (item.Refuse refusal) added e parsed closes body comes comes' a b = agree_at comes comes' (step.Due (due.Refusal refusal) true) _ _ (after_item (item.Refuse refusal) added e parsed closes body silent) a b refl refl
 
-ipp_agrees : Laws → (e : Entry) (said : List HttpElement) (closes : Bool) (body : List ℕ) (comes comes' : Step) (mid mid' : Entry) (a : IppItemComes e said closes body comes mid) (b : IppItemComes e said closes body comes' mid')
+ipp_agrees : Laws → (e : Entry) (parsed : List HttpElement) (closes : Bool) (body : List ℕ) (comes comes' : Step) (mid mid' : Entry) (a : IppItemComes e parsed closes body comes mid) (b : IppItemComes e parsed closes body comes' mid')
     → part_taken a.item a.part ≡ part_taken b.item b.part → Agree comes mid comes' mid'
-ipp_agrees laws e said closes body comes comes' mid mid' a b parts =
-    let long : length (elements_of a.item a.part) ≡ length (elements_of b.item b.part) = long_is a.item a.part ∙ ap said_long parts ∙ sym (long_is b.item b.part) in
-    let all : length (said ++ elements_of a.item a.part) ≡ length (said ++ elements_of b.item b.part) = length-append said (elements_of a.item a.part) ∙ ap (λ (n : ℕ). length said + n) long ∙ sym (length-append said (elements_of b.item b.part)) in
-    let added : elements_of b.item b.part ≡ elements_of a.item a.part = append_cancel_left said (elements_of b.item b.part) (elements_of a.item a.part) (sym (laws.http e.read (said ++ elements_of a.item a.part) (said ++ elements_of b.item b.part) a.next b.next all)) in
+ipp_agrees laws e parsed closes body comes comes' mid mid' a b parts =
+    let long : length (elements_of a.item a.part) ≡ length (elements_of b.item b.part) = long_is a.item a.part ∙ ap parsed_long parts ∙ sym (long_is b.item b.part) in
+    let all : length (parsed ++ elements_of a.item a.part) ≡ length (parsed ++ elements_of b.item b.part) = length-append parsed (elements_of a.item a.part) ∙ ap (λ (n : ℕ). length parsed + n) long ∙ sym (length-append parsed (elements_of b.item b.part)) in
+    let added : elements_of b.item b.part ≡ elements_of a.item a.part = append_cancel_left parsed (elements_of b.item b.part) (elements_of a.item a.part) (sym (laws.http e.read (parsed ++ elements_of a.item a.part) (parsed ++ elements_of b.item b.part) a.next b.next all)) in
     let same : b.item ≡ a.item = sym (item_is b.item b.part) ∙ ap (λ (o : Option ℕ). item_of o (elements_of b.item b.part)) (sym parts) ∙ ap (λ (s : List HttpElement). item_of (part_taken a.item a.part) s) added ∙ item_is a.item a.part in
     let there : StepsIpp a.item closes body comes' = subst (λ (it : HttpItem). StepsIpp it closes body comes') same b.comes in
-    let at : mid ≡ after_item a.item (elements_of a.item a.part) e said closes body comes = a.after ∙ after_is a.item a.part e said closes body comes in
-    let at' : mid' ≡ after_item a.item (elements_of a.item a.part) e said closes body comes' =
-    b.after ∙ after_is b.item b.part e said closes body comes' ∙ ap (λ (s : List HttpElement). after_item b.item s e said closes body comes') added ∙ ap (λ (it : HttpItem). after_item it (elements_of a.item a.part) e said closes body comes') same in
+    let at : mid ≡ after_item a.item (elements_of a.item a.part) e parsed closes body comes = a.after ∙ after_is a.item a.part e parsed closes body comes in
+    let at' : mid' ≡ after_item a.item (elements_of a.item a.part) e parsed closes body comes' =
+    b.after ∙ after_is b.item b.part e parsed closes body comes' ∙ ap (λ (s : List HttpElement). after_item b.item s e parsed closes body comes') added ∙ ap (λ (it : HttpItem). after_item it (elements_of a.item a.part) e parsed closes body comes') same in
     subst (λ (m : Entry). Agree comes m comes' mid') (sym at)
-    (subst (λ (m : Entry). Agree comes (after_item a.item (elements_of a.item a.part) e said closes body comes) comes' m) (sym at') (item_agrees laws a.item (elements_of a.item a.part) e said closes body comes comes' a.comes there))
+    (subst (λ (m : Entry). Agree comes (after_item a.item (elements_of a.item a.part) e parsed closes body comes) comes' m) (sym at') (item_agrees laws a.item (elements_of a.item a.part) e parsed closes body comes comes' a.comes there))
 
 -- ---- an LPD client
 
@@ -360,7 +360,7 @@ files_agree result before comes comes' after after' entry (inr a) (inl b) =
     agree_never comes comes' (entry after) (entry after') (λ loss x y. not_file loss (asks_usual result comes after a loss x) (subst (λ (c : Step). Loses c loss) b.0 y))
 files_agree result before comes comes' after after' entry (inr a) (inr b) = asks_agree result comes comes' after after' entry a b
 
-lpd_agrees : (queues : List ℕ → Bool) (before : Option SessionState) (said : ItemRecord) (comes comes' : Step) (after after' : Option SessionState) (entry : Option SessionState → Entry) → StepsLpd queues before said comes after → StepsLpd queues before said comes' after' → Agree comes (entry after) comes' (entry after')
+lpd_agrees : (queues : List ℕ → Bool) (before : Option SessionState) (parsed : ItemRecord) (comes comes' : Step) (after after' : Option SessionState) (entry : Option SessionState → Entry) → StepsLpd queues before parsed comes after → StepsLpd queues before parsed comes' after' → Agree comes (entry after) comes' (entry after')
 lpd_agrees queues before (HasFile contents) comes comes' after after' entry a b = files_agree (result_of queues before (HasFile contents)) before comes comes' after after' entry a b
 lpd_agrees queues before (HasCommand command) comes comes' after after' entry a b = asks_agree (result_of queues before (HasCommand command)) comes comes' after after' entry a b
 lpd_agrees queues before Aborts comes comes' after after' entry a b = asks_agree (result_of queues before Aborts) comes comes' after after' entry a b
@@ -371,7 +371,7 @@ file_no_line : (result : ItemResult) (before : Option SessionState) (comes : Ste
 file_no_line result before comes after (inl a) loss x is = let no : Some (OfPart part.File) ≡ Some (OfGrowth growth.Input) = sym (subst (λ (c : Step). Loses c loss) a.0 x) ∙ is in cc
 file_no_line result before comes after (inr a) loss x is = not_input loss (asks_usual result comes after a loss x) is
 
-item_no_line : (queues : List ℕ → Bool) (before : Option SessionState) (said : ItemRecord) (comes : Step) (after : Option SessionState) → StepsLpd queues before said comes after → (loss : Option Loss) → Loses comes loss → loss ≡ Some (OfGrowth growth.Input) → ⊥
+item_no_line : (queues : List ℕ → Bool) (before : Option SessionState) (parsed : ItemRecord) (comes : Step) (after : Option SessionState) → StepsLpd queues before parsed comes after → (loss : Option Loss) → Loses comes loss → loss ≡ Some (OfGrowth growth.Input) → ⊥
 item_no_line queues before (HasFile contents) comes after a loss x is = file_no_line (result_of queues before (HasFile contents)) before comes after a loss x is
 item_no_line queues before (HasCommand command) comes after a loss x is = not_input loss (asks_usual (result_of queues before (HasCommand command)) comes after a loss x) is
 item_no_line queues before Aborts comes after a loss x is = not_input loss (asks_usual (result_of queues before Aborts) comes after a loss x) is
@@ -386,12 +386,12 @@ one_longer xs x y = length-append xs (x ∷ []) ∙ sym (length-append xs (y ∷
 
 items_agree : Laws → (queues : List ℕ → Bool) (e : Entry) (items : List ItemRecord) (session : Option SessionState) (comes comes' : Step) (mid mid' : Entry) → LpdItemComes queues e items session comes mid → LpdItemComes queues e items session comes' mid' → Agree comes mid comes' mid'
 items_agree laws queues e items session comes comes' mid mid' a b =
-    let same : b.said ≡ a.said = last_one items b.said a.said (laws.lpd e.read (items ++ b.said ∷ []) (items ++ a.said ∷ []) b.next a.next (one_longer items b.said a.said)) in
-    let there : StepsLpd queues session a.said comes' b.session_after = subst (λ (x : ItemRecord). StepsLpd queues session x comes' b.session_after) same b.comes in
-    let at' : mid' ≡ with_progress (OfLpd (items ++ a.said ∷ []) b.session_after) e = b.after ∙ ap (λ (x : ItemRecord). with_progress (OfLpd (items ++ x ∷ []) b.session_after) e) same in
+    let same : b.parsed ≡ a.parsed = last_one items b.parsed a.parsed (laws.lpd e.read (items ++ b.parsed ∷ []) (items ++ a.parsed ∷ []) b.next a.next (one_longer items b.parsed a.parsed)) in
+    let there : StepsLpd queues session a.parsed comes' b.session_after = subst (λ (x : ItemRecord). StepsLpd queues session x comes' b.session_after) same b.comes in
+    let at' : mid' ≡ with_progress (OfLpd (items ++ a.parsed ∷ []) b.session_after) e = b.after ∙ ap (λ (x : ItemRecord). with_progress (OfLpd (items ++ x ∷ []) b.session_after) e) same in
     subst (λ (m : Entry). Agree comes m comes' mid') (sym a.after)
-    (subst (λ (m : Entry). Agree comes (with_progress (OfLpd (items ++ a.said ∷ []) a.session_after) e) comes' m) (sym at')
-    (lpd_agrees queues session a.said comes comes' a.session_after b.session_after (λ after. with_progress (OfLpd (items ++ a.said ∷ []) after) e) a.comes there))
+    (subst (λ (m : Entry). Agree comes (with_progress (OfLpd (items ++ a.parsed ∷ []) a.session_after) e) comes' m) (sym at')
+    (lpd_agrees queues session a.parsed comes comes' a.session_after b.session_after (λ after. with_progress (OfLpd (items ++ a.parsed ∷ []) after) e) a.comes there))
 
 -- an item, a fault, or no memory for a line
 abbrev NextItem : (List ℕ → Bool) → Entry → List ItemRecord → Option SessionState → Step → Entry → Type 0
@@ -402,21 +402,21 @@ refused_usual comes is loss x = loses_usual comes refused loss is x due_usual
 
 queue_agrees : Laws → (queues : List ℕ → Bool) (e : Entry) (items : List ItemRecord) (session : Option SessionState) (comes comes' : Step) (mid mid' : Entry) → NextItem queues e items session comes mid → NextItem queues e items session comes' mid' → Agree comes mid comes' mid'
 queue_agrees laws queues e items session comes comes' mid mid' (inl a) (inl b) = items_agree laws queues e items session comes comes' mid mid' a b
-queue_agrees laws queues e items session comes comes' mid mid' (inl a) (inr (inl b)) = absurd (laws.lpd_ends e.read items a.said (Lpd.Faulty b.fault) a.next b.is)
+queue_agrees laws queues e items session comes comes' mid mid' (inl a) (inr (inl b)) = absurd (laws.lpd_ends e.read items a.parsed (Lpd.Faulty b.fault) a.next b.is)
 queue_agrees laws queues e items session comes comes' mid mid' (inl a) (inr (inr b)) =
-    agree_never comes comes' mid mid' (λ loss x y. item_no_line queues session a.said comes a.session_after a.comes loss x (subst (λ (c : Step). Loses c loss) b.0 y))
-queue_agrees laws queues e items session comes comes' mid mid' (inr (inl a)) (inl b) = absurd (laws.lpd_ends e.read items b.said (Lpd.Faulty a.fault) b.next a.is)
+    agree_never comes comes' mid mid' (λ loss x y. item_no_line queues session a.parsed comes a.session_after a.comes loss x (subst (λ (c : Step). Loses c loss) b.0 y))
+queue_agrees laws queues e items session comes comes' mid mid' (inr (inl a)) (inl b) = absurd (laws.lpd_ends e.read items b.parsed (Lpd.Faulty a.fault) b.next a.is)
 queue_agrees laws queues e items session comes comes' mid mid' (inr (inl a)) (inr (inl b)) = agree_at comes comes' refused mid mid' e a.comes b.comes a.after b.after
 queue_agrees laws queues e items session comes comes' mid mid' (inr (inl a)) (inr (inr b)) = agree_no_memory comes comes' mid mid' (refused_usual comes a.comes) b.0
 queue_agrees laws queues e items session comes comes' mid mid' (inr (inr a)) (inl b) =
-    agree_never comes comes' mid mid' (λ loss x y. item_no_line queues session b.said comes' b.session_after b.comes loss y (subst (λ (c : Step). Loses c loss) a.0 x))
+    agree_never comes comes' mid mid' (λ loss x y. item_no_line queues session b.parsed comes' b.session_after b.comes loss y (subst (λ (c : Step). Loses c loss) a.0 x))
 queue_agrees laws queues e items session comes comes' mid mid' (inr (inr a)) (inr (inl b)) = no_memory_agrees comes comes' mid mid' a.0 (refused_usual comes' b.comes)
 queue_agrees laws queues e items session comes comes' mid mid' (inr (inr a)) (inr (inr b)) = agree_at comes comes' no_memory mid mid' e a.0 b.0 a.1 b.1
 
 -- ---- a device
 
 abbrev Reported : ℕ → ReportRecord → Step → Type 0
-Reported device said comes = (it : Report) × (report_of it ≡ said) × (comes ≡ step.Asks (ask.Report device it) false)
+Reported device parsed comes = (it : Report) × (report_of it ≡ parsed) × (comes ≡ step.Asks (ask.Report device it) false)
 
 hello_agrees : (name : List ℕ) (named : Option ℕ) (comes comes' : Step) (after after' : Option ℕ) (entry : Option ℕ → Entry) → StepsHello name named comes after → StepsHello name named comes' after' → Agree comes (entry after) comes' (entry after')
 hello_agrees name None comes comes' after after' entry a b = agree_at comes comes' (step.Breaks (ask.UnknownDevice name)) (entry after) (entry after') (entry None) a.0 b.0 (ap entry a.1) (ap entry b.1)
@@ -426,29 +426,29 @@ hello_usual : (name : List ℕ) (named : Option ℕ) (comes : Step) (after : Opt
 hello_usual name None comes after a loss x = loses_usual comes (step.Breaks (ask.UnknownDevice name)) loss a.0 x (λ loss none. inl none)
 hello_usual name (Some device) comes after a loss x = loses_usual comes (step.Asks (ask.Hello device name) false) loss a.0 x (λ loss none. inl none)
 
-reported_usual : (device : ℕ) (said : ReportRecord) (comes : Step) → Reported device said comes → (loss : Option Loss) → Loses comes loss → IsUsual loss
-reported_usual device said comes a loss x = loses_usual comes (step.Asks (ask.Report device a.0) false) loss a.2 x (λ loss none. inl none)
+reported_usual : (device : ℕ) (parsed : ReportRecord) (comes : Step) → Reported device parsed comes → (loss : Option Loss) → Loses comes loss → IsUsual loss
+reported_usual device parsed comes a loss x = loses_usual comes (step.Asks (ask.Report device a.0) false) loss a.2 x (λ loss none. inl none)
 
-device_agrees : (named : List ℕ → Option ℕ) (device : Option ℕ) (said : ReportRecord) (comes comes' : Step) (after after' : Option ℕ) (entry : Option ℕ → Entry) → StepsDevice named device said comes after → StepsDevice named device said comes' after' → Agree comes (entry after) comes' (entry after')
+device_agrees : (named : List ℕ → Option ℕ) (device : Option ℕ) (parsed : ReportRecord) (comes comes' : Step) (after after' : Option ℕ) (entry : Option ℕ → Entry) → StepsDevice named device parsed comes after → StepsDevice named device parsed comes' after' → Agree comes (entry after) comes' (entry after')
 device_agrees named None (HelloReport name) comes comes' after after' entry a b = hello_agrees name (named name) comes comes' after after' entry a b
-device_agrees named None said comes comes' after after' entry a b = absurd a
-device_agrees named (Some device) said comes comes' after after' entry a b =
+device_agrees named None parsed comes comes' after after' entry a b = absurd a
+device_agrees named (Some device) parsed comes comes' after after' entry a b =
     agree_as comes comes' (step.Asks (ask.Report device a.0.0) false) (step.Asks (ask.Report device b.0.0) false) (entry after) (entry after') (entry (Some device)) a.0.2 b.0.2 (ap entry a.1) (ap entry b.1)
     (agree_asks (ask.Report device a.0.0) (ask.Report device b.0.0) false (entry (Some device)) (refl, a.0.1 ∙ sym b.0.1))
 
-device_usual : (named : List ℕ → Option ℕ) (device : Option ℕ) (said : ReportRecord) (comes : Step) (after : Option ℕ) → StepsDevice named device said comes after → (loss : Option Loss) → Loses comes loss → IsUsual loss
+device_usual : (named : List ℕ → Option ℕ) (device : Option ℕ) (parsed : ReportRecord) (comes : Step) (after : Option ℕ) → StepsDevice named device parsed comes after → (loss : Option Loss) → Loses comes loss → IsUsual loss
 device_usual named None (HelloReport name) comes after a loss x = hello_usual name (named name) comes after a loss x
-device_usual named None said comes after a loss x = absurd a
-device_usual named (Some device) said comes after a loss x = reported_usual device said comes a.0 loss x
+device_usual named None parsed comes after a loss x = absurd a
+device_usual named (Some device) parsed comes after a loss x = reported_usual device parsed comes a.0 loss x
 
 reports_agree : Laws → (named : List ℕ → Option ℕ) (e : Entry) (reports : List ReportRecord) (device : Option ℕ) (comes comes' : Step) (mid mid' : Entry) → ReportComes named e reports device comes mid → ReportComes named e reports device comes' mid' → Agree comes mid comes' mid'
 reports_agree laws named e reports device comes comes' mid mid' a b =
-    let same : b.said ≡ a.said = last_one reports b.said a.said (laws.link e.read (reports ++ b.said ∷ []) (reports ++ a.said ∷ []) b.next a.next (one_longer reports b.said a.said)) in
-    let there : StepsDevice named device a.said comes' b.device_after = subst (λ (x : ReportRecord). StepsDevice named device x comes' b.device_after) same b.comes in
-    let at' : mid' ≡ with_progress (OfDevice (reports ++ a.said ∷ []) b.device_after) e = b.after ∙ ap (λ (x : ReportRecord). with_progress (OfDevice (reports ++ x ∷ []) b.device_after) e) same in
+    let same : b.parsed ≡ a.parsed = last_one reports b.parsed a.parsed (laws.link e.read (reports ++ b.parsed ∷ []) (reports ++ a.parsed ∷ []) b.next a.next (one_longer reports b.parsed a.parsed)) in
+    let there : StepsDevice named device a.parsed comes' b.device_after = subst (λ (x : ReportRecord). StepsDevice named device x comes' b.device_after) same b.comes in
+    let at' : mid' ≡ with_progress (OfDevice (reports ++ a.parsed ∷ []) b.device_after) e = b.after ∙ ap (λ (x : ReportRecord). with_progress (OfDevice (reports ++ x ∷ []) b.device_after) e) same in
     subst (λ (m : Entry). Agree comes m comes' mid') (sym a.after)
-    (subst (λ (m : Entry). Agree comes (with_progress (OfDevice (reports ++ a.said ∷ []) a.device_after) e) comes' m) (sym at')
-    (device_agrees named device a.said comes comes' a.device_after b.device_after (λ after. with_progress (OfDevice (reports ++ a.said ∷ []) after) e) a.comes there))
+    (subst (λ (m : Entry). Agree comes (with_progress (OfDevice (reports ++ a.parsed ∷ []) a.device_after) e) comes' m) (sym at')
+    (device_agrees named device a.parsed comes comes' a.device_after b.device_after (λ after. with_progress (OfDevice (reports ++ a.parsed ∷ []) after) e) a.comes there))
 
 -- a report, a fault, or no memory for a line
 abbrev NextReport : (List ℕ → Option ℕ) → Entry → List ReportRecord → Option ℕ → Step → Entry → Type 0
@@ -459,12 +459,12 @@ faulty_usual device comes is loss x = loses_usual comes (faulty device) loss is 
 
 link_agrees : Laws → (named : List ℕ → Option ℕ) (e : Entry) (reports : List ReportRecord) (device : Option ℕ) (comes comes' : Step) (mid mid' : Entry) → NextReport named e reports device comes mid → NextReport named e reports device comes' mid' → Agree comes mid comes' mid'
 link_agrees laws named e reports device comes comes' mid mid' (inl a) (inl b) = reports_agree laws named e reports device comes comes' mid mid' a b
-link_agrees laws named e reports device comes comes' mid mid' (inl a) (inr (inl b)) = absurd (laws.link_ends e.read reports a.said (Link.Faulty b.fault) a.next b.is)
-link_agrees laws named e reports device comes comes' mid mid' (inl a) (inr (inr b)) = agree_no_memory comes comes' mid mid' (device_usual named device a.said comes a.device_after a.comes) b.0
-link_agrees laws named e reports device comes comes' mid mid' (inr (inl a)) (inl b) = absurd (laws.link_ends e.read reports b.said (Link.Faulty a.fault) b.next a.is)
+link_agrees laws named e reports device comes comes' mid mid' (inl a) (inr (inl b)) = absurd (laws.link_ends e.read reports a.parsed (Link.Faulty b.fault) a.next b.is)
+link_agrees laws named e reports device comes comes' mid mid' (inl a) (inr (inr b)) = agree_no_memory comes comes' mid mid' (device_usual named device a.parsed comes a.device_after a.comes) b.0
+link_agrees laws named e reports device comes comes' mid mid' (inr (inl a)) (inl b) = absurd (laws.link_ends e.read reports b.parsed (Link.Faulty a.fault) b.next a.is)
 link_agrees laws named e reports device comes comes' mid mid' (inr (inl a)) (inr (inl b)) = agree_at comes comes' (faulty device) mid mid' e a.comes b.comes a.after b.after
 link_agrees laws named e reports device comes comes' mid mid' (inr (inl a)) (inr (inr b)) = agree_no_memory comes comes' mid mid' (faulty_usual device comes a.comes) b.0
-link_agrees laws named e reports device comes comes' mid mid' (inr (inr a)) (inl b) = no_memory_agrees comes comes' mid mid' a.0 (device_usual named device b.said comes' b.device_after b.comes)
+link_agrees laws named e reports device comes comes' mid mid' (inr (inr a)) (inl b) = no_memory_agrees comes comes' mid mid' a.0 (device_usual named device b.parsed comes' b.device_after b.comes)
 link_agrees laws named e reports device comes comes' mid mid' (inr (inr a)) (inr (inl b)) = no_memory_agrees comes comes' mid mid' a.0 (faulty_usual device comes' b.comes)
 link_agrees laws named e reports device comes comes' mid mid' (inr (inr a)) (inr (inr b)) = agree_at comes comes' no_memory mid mid' e a.0 b.0 a.1 b.1
 
@@ -472,11 +472,11 @@ link_agrees laws named e reports device comes comes' mid mid' (inr (inr a)) (inr
 
 item_steps_agree : Laws → (settings : ServerSettings) (progress : PeerRecord) (e : Entry) (comes comes' : Step) (mid mid' : Entry) (a : ItemComes settings progress e comes mid) (b : ItemComes settings progress e comes' mid')
     → part_acted_on settings progress e comes mid a ≡ part_acted_on settings progress e comes' mid' b → Agree comes mid comes' mid'
-item_steps_agree laws settings (OfIpp said closes body) e comes comes' mid mid' a b parts = ipp_agrees laws e said closes body comes comes' mid mid' a b parts
+item_steps_agree laws settings (OfIpp parsed closes body) e comes comes' mid mid' a b parts = ipp_agrees laws e parsed closes body comes comes' mid mid' a b parts
 item_steps_agree laws settings (OfLpd items session) e comes comes' mid mid' a b parts = queue_agrees laws (is_queue settings) e items session comes comes' mid mid' a b
 item_steps_agree laws settings (OfDevice reports device) e comes comes' mid mid' a b parts = link_agrees laws (device_named settings) e reports device comes comes' mid mid' a b
 
-pub asks_one : Laws → (settings : ServerSettings) (e : Entry) (what said : Ask) (new after : Entry) (one : AsksNext settings what e new) (other : AsksNext settings said e after)
-    → part_of one ≡ part_of other → lost_of what ≡ lost_of said → SameAsk what said × (new ≡ after)
-asks_one laws settings e what said new after one other parts lost =
-    item_steps_agree laws settings e.progress e one.comes other.comes one.mid other.mid one.takes_item other.takes_item parts what said new after one.steps other.steps lost
+pub asks_one : Laws → (settings : ServerSettings) (e : Entry) (what parsed : Ask) (new after : Entry) (one : AsksNext settings what e new) (other : AsksNext settings parsed e after)
+    → part_of one ≡ part_of other → lost_of what ≡ lost_of parsed → SameAsk what parsed × (new ≡ after)
+asks_one laws settings e what parsed new after one other parts lost =
+    item_steps_agree laws settings e.progress e one.comes other.comes one.mid other.mid one.takes_item other.takes_item parts what parsed new after one.steps other.steps lost

@@ -8,7 +8,7 @@ use Rattle.base_types.specs.declared.report.Report.{Report}
 use Rattle.base_types.specs.declared.report.Report.TheVariants as reported
 use Rattle.base_types.specs.Report.{ReportRecord, HelloReport, MediaReport, ReadyReport, StopReport, BusyReport, PagesReport, DoneReport, FailReport, GoneReport, report_of}
 use Rattle.settings_file.specs.Settings.{ServerSettings, device_named}
-use Rattle.device_link.specs.Line.{in_turn, said}
+use Rattle.device_link.specs.Line.{in_turn, parsed}
 use Rattle.device_link.specs.declared.fault.LinkError.{LinkError}
 use Rattle.device_link.specs.declared.fault.LinkError.TheVariants as link
 use Rattle.device_link.specs.Stream.{LinkState}
@@ -90,91 +90,91 @@ pub next_is_item : (what : Option Step) (t u : IppClientState) → t.unreported 
 next_is_item None t u all_reported takes = (all_reported, takes)
 next_is_item (Some what) t u all_reported takes = inr (all_reported, takes)
 
-fits_ipp : (read : List ℕ) (said : List HttpElement) (closes : Bool) (body : List ℕ) (reader : HttpState) (u : IppClientState) → Http.HasRead read said reader → u.reader ≡ reader → u.closes ≡ closes → Body.HasRead body u.body → FitsIpp read (entry.Http said closes body) u
-fits_ipp read said closes body reader u reaches same is body_read = record {
-  said = said;
+fits_ipp : (read : List ℕ) (parsed : List HttpElement) (closes : Bool) (body : List ℕ) (reader : HttpState) (u : IppClientState) → Http.HasRead read parsed reader → u.reader ≡ reader → u.closes ≡ closes → Body.HasRead body u.body → FitsIpp read (entry.Http parsed closes body) u
+fits_ipp read parsed closes body reader u reaches same is body_read = record {
+  parsed = parsed;
   body = body;
   unreported = [];
-  is = ap (λ (x : Bool). entry.Http said x body) (sym is);
+  is = ap (λ (x : Bool). entry.Http parsed x body) (sym is);
   all_reported = λ off. refl;
-  reaches = subst (λ (xs : List HttpElement). Http.HasRead read xs u.reader) (sym (append-nil said)) (subst (λ (r : HttpState). Http.HasRead read said r) (sym same) reaches);
+  reaches = subst (λ (xs : List HttpElement). Http.HasRead read xs u.reader) (sym (append-nil parsed)) (subst (λ (r : HttpState). Http.HasRead read parsed r) (sym same) reaches);
   body_read = subst (λ (xs : List ℕ). Body.HasRead xs u.body) (sym (append-nil body)) body_read;
 }
 
 -- all that the body was fed was reported
-reaches_reported : (read : List ℕ) (progress : PeerRecord) (t : IppClientState) (f : FitsIpp read progress t) → t.unreported ≡ false → Http.HasRead read f.said t.reader
+reaches_reported : (read : List ℕ) (progress : PeerRecord) (t : IppClientState) (f : FitsIpp read progress t) → t.unreported ≡ false → Http.HasRead read f.parsed t.reader
 reaches_reported read progress t f off =
-    let none : Http.HasRead read (f.said ++ map HasByte []) t.reader = subst (λ (xs : List ℕ). Http.HasRead read (f.said ++ map HasByte xs) t.reader) (f.all_reported off) f.reaches in
-    subst (λ (xs : List HttpElement). Http.HasRead read xs t.reader) (append-nil f.said) none
+    let none : Http.HasRead read (f.parsed ++ map HasByte []) t.reader = subst (λ (xs : List ℕ). Http.HasRead read (f.parsed ++ map HasByte xs) t.reader) (f.all_reported off) f.reaches in
+    subst (λ (xs : List HttpElement). Http.HasRead read xs t.reader) (append-nil f.parsed) none
 
 body_reported : (read : List ℕ) (progress : PeerRecord) (t : IppClientState) (f : FitsIpp read progress t) → t.unreported ≡ false → Body.HasRead f.body t.body
 body_reported read progress t f off =
     let none : Body.HasRead (f.body ++ []) t.body = subst (λ (xs : List ℕ). Body.HasRead (f.body ++ xs) t.body) (f.all_reported off) f.body_read in
     subst (λ (xs : List ℕ). Body.HasRead xs t.body) (append-nil f.body) none
 
-parses_first : (read : List ℕ) (said : List HttpElement) (reader : HttpState) → Http.HasRead read said reader → Http.ParsesFirst read said
-parses_first read said reader reaches = record { next = reader.awaited; left = reaches.left; leads = reaches.leads }
+parses_first : (read : List ℕ) (parsed : List HttpElement) (reader : HttpState) → Http.HasRead read parsed reader → Http.ParsesFirst read parsed
+parses_first read parsed reader reaches = record { next = reader.awaited; left = reaches.left; leads = reaches.leads }
 
 -- the step for an item
 abbrev Comes : Entry → List HttpElement → Bool → List ℕ → Step → IppClientState → Type 0
-Comes e said closes body what u = (progress : PeerRecord) × NextItem e said closes body what (with_progress progress e) × FitsIpp e.read progress u
+Comes e parsed closes body what u = (progress : PeerRecord) × NextItem e parsed closes body what (with_progress progress e) × FitsIpp e.read progress u
 
-part_comes : (e : Entry) (said : List HttpElement) (t u : IppClientState) (body : List ℕ) (reader : HttpState) (what : Step) → Http.HasRead e.read (said ++ elements_of item.BodyPart reader.part) reader → Body.HasRead body t.body → HandlesIpp item.BodyPart what (with_http reader t) u → Comes e said t.closes body what u
-part_comes e said t u body reader (step.Due due last) reaches body_read it = (
-  entry.Http (said ++ elements_of item.BodyPart reader.part) t.closes (body ++ reader.part),
-  record { item = item.BodyPart; part = reader.part; next = parses_first e.read (said ++ elements_of item.BodyPart reader.part) reader reaches; comes = inl it.0; after = refl },
-  fits_ipp e.read (said ++ elements_of item.BodyPart reader.part) t.closes (body ++ reader.part) reader u reaches (ap (λ (x : IppClientState). x.reader) it.1) (ap (λ (x : IppClientState). x.closes) it.1) (it.2 body body_read),
+part_comes : (e : Entry) (parsed : List HttpElement) (t u : IppClientState) (body : List ℕ) (reader : HttpState) (what : Step) → Http.HasRead e.read (parsed ++ elements_of item.BodyPart reader.part) reader → Body.HasRead body t.body → HandlesIpp item.BodyPart what (with_http reader t) u → Comes e parsed t.closes body what u
+part_comes e parsed t u body reader (step.Due due last) reaches body_read it = (
+  entry.Http (parsed ++ elements_of item.BodyPart reader.part) t.closes (body ++ reader.part),
+  record { item = item.BodyPart; part = reader.part; next = parses_first e.read (parsed ++ elements_of item.BodyPart reader.part) reader reaches; comes = inl it.0; after = refl },
+  fits_ipp e.read (parsed ++ elements_of item.BodyPart reader.part) t.closes (body ++ reader.part) reader u reaches (ap (λ (x : IppClientState). x.reader) it.1) (ap (λ (x : IppClientState). x.closes) it.1) (it.2 body body_read),
 )
-part_comes e said t u body reader (step.Asks ask last) reaches body_read it = absurd it
-part_comes e said t u body reader (step.Breaks ask) reaches body_read it = (
-  entry.Http (said ++ elements_of item.BodyPart reader.part) t.closes body,
-  record { item = item.BodyPart; part = reader.part; next = parses_first e.read (said ++ elements_of item.BodyPart reader.part) reader reaches; comes = inr it.0; after = refl },
-  fits_ipp e.read (said ++ elements_of item.BodyPart reader.part) t.closes body reader u reaches (ap (λ (x : IppClientState). x.reader) it.1) (ap (λ (x : IppClientState). x.closes) it.1) (subst (λ (x : IppClientState). Body.HasRead body x.body) (sym it.1) body_read),
+part_comes e parsed t u body reader (step.Asks ask last) reaches body_read it = absurd it
+part_comes e parsed t u body reader (step.Breaks ask) reaches body_read it = (
+  entry.Http (parsed ++ elements_of item.BodyPart reader.part) t.closes body,
+  record { item = item.BodyPart; part = reader.part; next = parses_first e.read (parsed ++ elements_of item.BodyPart reader.part) reader reaches; comes = inr it.0; after = refl },
+  fits_ipp e.read (parsed ++ elements_of item.BodyPart reader.part) t.closes body reader u reaches (ap (λ (x : IppClientState). x.reader) it.1) (ap (λ (x : IppClientState). x.closes) it.1) (subst (λ (x : IppClientState). Body.HasRead body x.body) (sym it.1) body_read),
 )
 
-item_comes : (e : Entry) (said : List HttpElement) (t u : IppClientState) (body : List ℕ) (reader : HttpState) (what : Step) (it : HttpItem) → Http.HasRead e.read (said ++ elements_of it reader.part) reader → Body.HasRead body t.body → HandlesIpp it what (with_http reader t) u → Comes e said t.closes body what u
-item_comes e said t u body reader what (item.Head closes) reaches body_read (is, same, begun) = (
-  entry.Http (said ++ elements_of (item.Head closes) reader.part) closes [],
-  record { item = item.Head closes; part = reader.part; next = parses_first e.read (said ++ elements_of (item.Head closes) reader.part) reader reaches; comes = is; after = refl },
-  fits_ipp e.read (said ++ elements_of (item.Head closes) reader.part) closes [] reader u reaches (ap (λ (x : IppClientState). x.reader) same) (ap (λ (x : IppClientState). x.closes) same) begun,
+item_comes : (e : Entry) (parsed : List HttpElement) (t u : IppClientState) (body : List ℕ) (reader : HttpState) (what : Step) (it : HttpItem) → Http.HasRead e.read (parsed ++ elements_of it reader.part) reader → Body.HasRead body t.body → HandlesIpp it what (with_http reader t) u → Comes e parsed t.closes body what u
+item_comes e parsed t u body reader what (item.Head closes) reaches body_read (is, same, begun) = (
+  entry.Http (parsed ++ elements_of (item.Head closes) reader.part) closes [],
+  record { item = item.Head closes; part = reader.part; next = parses_first e.read (parsed ++ elements_of (item.Head closes) reader.part) reader reaches; comes = is; after = refl },
+  fits_ipp e.read (parsed ++ elements_of (item.Head closes) reader.part) closes [] reader u reaches (ap (λ (x : IppClientState). x.reader) same) (ap (λ (x : IppClientState). x.closes) same) begun,
 )
-item_comes e said t u body reader what item.Continue reaches body_read (is, same) = (
-  entry.Http (said ++ elements_of item.Continue reader.part) t.closes body,
-  record { item = item.Continue; part = reader.part; next = parses_first e.read (said ++ elements_of item.Continue reader.part) reader reaches; comes = is; after = refl },
-  fits_ipp e.read (said ++ elements_of item.Continue reader.part) t.closes body reader u reaches (ap (λ (x : IppClientState). x.reader) same) (ap (λ (x : IppClientState). x.closes) same) (subst (λ (x : IppClientState). Body.HasRead body x.body) (sym same) body_read),
+item_comes e parsed t u body reader what item.Continue reaches body_read (is, same) = (
+  entry.Http (parsed ++ elements_of item.Continue reader.part) t.closes body,
+  record { item = item.Continue; part = reader.part; next = parses_first e.read (parsed ++ elements_of item.Continue reader.part) reader reaches; comes = is; after = refl },
+  fits_ipp e.read (parsed ++ elements_of item.Continue reader.part) t.closes body reader u reaches (ap (λ (x : IppClientState). x.reader) same) (ap (λ (x : IppClientState). x.closes) same) (subst (λ (x : IppClientState). Body.HasRead body x.body) (sym same) body_read),
 )
-item_comes e said t u body reader what item.BodyPart reaches body_read it = part_comes e said t u body reader what reaches body_read it
-item_comes e said t u body reader what item.BodyEnd reaches body_read (same, begun, ends) = (
-  entry.Http (said ++ elements_of item.BodyEnd reader.part) t.closes [],
-  record { item = item.BodyEnd; part = reader.part; next = parses_first e.read (said ++ elements_of item.BodyEnd reader.part) reader reaches; comes = ends body body_read; after = refl },
-  fits_ipp e.read (said ++ elements_of item.BodyEnd reader.part) t.closes [] reader u reaches (ap (λ (x : IppClientState). x.reader) same) (ap (λ (x : IppClientState). x.closes) same) begun,
+item_comes e parsed t u body reader what item.BodyPart reaches body_read it = part_comes e parsed t u body reader what reaches body_read it
+item_comes e parsed t u body reader what item.BodyEnd reaches body_read (same, begun, ends) = (
+  entry.Http (parsed ++ elements_of item.BodyEnd reader.part) t.closes [],
+  record { item = item.BodyEnd; part = reader.part; next = parses_first e.read (parsed ++ elements_of item.BodyEnd reader.part) reader reaches; comes = ends body body_read; after = refl },
+  fits_ipp e.read (parsed ++ elements_of item.BodyEnd reader.part) t.closes [] reader u reaches (ap (λ (x : IppClientState). x.reader) same) (ap (λ (x : IppClientState). x.closes) same) begun,
 )
-item_comes e said t u body reader what (item.Refuse refusal) reaches body_read (is, same) = (
-  entry.Http (said ++ elements_of (item.Refuse refusal) reader.part) t.closes body,
-  record { item = item.Refuse refusal; part = reader.part; next = parses_first e.read (said ++ elements_of (item.Refuse refusal) reader.part) reader reaches; comes = is; after = refl },
-  fits_ipp e.read (said ++ elements_of (item.Refuse refusal) reader.part) t.closes body reader u reaches (ap (λ (x : IppClientState). x.reader) same) (ap (λ (x : IppClientState). x.closes) same) (subst (λ (x : IppClientState). Body.HasRead body x.body) (sym same) body_read),
+item_comes e parsed t u body reader what (item.Refuse refusal) reaches body_read (is, same) = (
+  entry.Http (parsed ++ elements_of (item.Refuse refusal) reader.part) t.closes body,
+  record { item = item.Refuse refusal; part = reader.part; next = parses_first e.read (parsed ++ elements_of (item.Refuse refusal) reader.part) reader reaches; comes = is; after = refl },
+  fits_ipp e.read (parsed ++ elements_of (item.Refuse refusal) reader.part) t.closes body reader u reaches (ap (λ (x : IppClientState). x.reader) same) (ap (λ (x : IppClientState). x.closes) same) (subst (λ (x : IppClientState). Body.HasRead body x.body) (sym same) body_read),
 )
 
 ipp_comes : (settings : ServerSettings) (e : Entry) (t u : IppClientState) (what : Step) → FitsIpp e.read e.progress t → NextIpp (Some what) t u → HasCome settings e what (of.Ipp u)
 ipp_comes settings e t u what f (inl (on, is, same)) =
-    let fits : FitsIpp e.read (entry.Http (f.said ++ map HasByte f.unreported) t.closes (f.body ++ f.unreported)) u =
-    fits_ipp e.read (f.said ++ map HasByte f.unreported) t.closes (f.body ++ f.unreported) t.reader u f.reaches (ap (λ (x : IppClientState). x.reader) same) (ap (λ (x : IppClientState). x.closes) same) (subst (λ (x : IppClientState). Body.HasRead (f.body ++ f.unreported) x.body) (sym same) f.body_read) in
-    let next : NextItem e f.said t.closes f.body silent (with_progress (entry.Http (f.said ++ map HasByte f.unreported) t.closes (f.body ++ f.unreported)) e) = record {
+    let fits : FitsIpp e.read (entry.Http (f.parsed ++ map HasByte f.unreported) t.closes (f.body ++ f.unreported)) u =
+    fits_ipp e.read (f.parsed ++ map HasByte f.unreported) t.closes (f.body ++ f.unreported) t.reader u f.reaches (ap (λ (x : IppClientState). x.reader) same) (ap (λ (x : IppClientState). x.closes) same) (subst (λ (x : IppClientState). Body.HasRead (f.body ++ f.unreported) x.body) (sym same) f.body_read) in
+    let next : NextItem e f.parsed t.closes f.body silent (with_progress (entry.Http (f.parsed ++ map HasByte f.unreported) t.closes (f.body ++ f.unreported)) e) = record {
       item = item.BodyPart;
       part = f.unreported;
-      next = parses_first e.read (f.said ++ map HasByte f.unreported) t.reader f.reaches;
+      next = parses_first e.read (f.parsed ++ map HasByte f.unreported) t.reader f.reaches;
       comes = inl refl;
       after = refl;
     } in
     let comes : HasCome settings e silent (of.Ipp u) = record {
-      progress = entry.Http (f.said ++ map HasByte f.unreported) t.closes (f.body ++ f.unreported);
-      takes_item = subst (λ (k : PeerRecord). ItemComes settings k e silent (with_progress (entry.Http (f.said ++ map HasByte f.unreported) t.closes (f.body ++ f.unreported)) e)) (sym f.is) next;
+      progress = entry.Http (f.parsed ++ map HasByte f.unreported) t.closes (f.body ++ f.unreported);
+      takes_item = subst (λ (k : PeerRecord). ItemComes settings k e silent (with_progress (entry.Http (f.parsed ++ map HasByte f.unreported) t.closes (f.body ++ f.unreported)) e)) (sym f.is) next;
       broken = fits;
       whole = λ goes. fits;
     } in
     subst (λ (w : Step). HasCome settings e w (of.Ipp u)) (sym is) comes
 ipp_comes settings e t u what f (inr (off, (it, reader, answers, falls, takes_item))) =
-    let c = item_comes e f.said t u f.body reader what it (answers.0 e.read f.said (reaches_reported e.read e.progress t f off)) (body_reported e.read e.progress t f off) takes_item in
+    let c = item_comes e f.parsed t u f.body reader what it (answers.0 e.read f.parsed (reaches_reported e.read e.progress t f off)) (body_reported e.read e.progress t f off) takes_item in
     record { progress = c.0; takes_item = subst (λ (k : PeerRecord). ItemComes settings k e what (with_progress c.0 e)) (sym f.is) c.1; broken = c.2; whole = λ goes. c.2 }
 
 -- ---- an LPD client
@@ -185,7 +185,7 @@ lpd_comes settings e t u what f (inl (it, reader, answers, falls, (same, comes))
     let reaches : Lpd.HasRead e.read items reader = answers e.read f.items f.reaches in
     let fits : FitsLpd e.read (entry.Queue (f.items ++ item_record it reader.file ∷ []) u.session) u = record { items = f.items ++ item_record it reader.file ∷ []; is = refl; reaches = subst (λ (r : LpdState). Lpd.HasRead e.read (f.items ++ item_record it reader.file ∷ []) r) (sym same) reaches } in
     let next : LpdItemComes (is_queue settings) e f.items t.session what (with_progress (entry.Queue (f.items ++ item_record it reader.file ∷ []) u.session) e) = record {
-      said = item_record it reader.file;
+      parsed = item_record it reader.file;
       session_after = u.session;
       next = record { next = reader.awaited; left = reaches.left; leads = reaches.leads };
       comes = comes;
@@ -222,7 +222,7 @@ first_is_hello (Some GoneReport) r is = cc
 hello_first : (read : List ℕ) (r : ReportRecord) (reader : LinkState) → Link.HasRead read (r ∷ []) reader → IsHello r
 hello_first read r reader reaches =
     let prefix = reaches.leads.1 in
-    first_is_hello (said (words_of (strip_carriage_return (take prefix.count read)))) r prefix.parses
+    first_is_hello (parsed (words_of (strip_carriage_return (take prefix.count read)))) r prefix.parses
 
 -- the step for a report, and the device then: the device has given its name, unless the connection breaks
 record Comes_of (named : List ℕ → Option ℕ) (device : Option ℕ) (it : ReportRecord) (what : Step) (after : Option ℕ) : Type 0 where
@@ -262,7 +262,7 @@ device_comes settings e t u what f (inl (it, reader, answers, falls, (same, come
     let reaches : Link.HasRead e.read (f.reports ++ report_of it ∷ []) reader = answers e.read f.reports linked.reaches in
     let c = report_comes (device_named settings) e.read f.reports t.device it reader what u.device linked.unnamed reaches comes in
     let next : ReportComes (device_named settings) e f.reports t.device what (with_progress (entry.Link (f.reports ++ report_of it ∷ []) u.device) e) = record {
-      said = report_of it;
+      parsed = report_of it;
       device_after = u.device;
       next = record { next = reader.greeted; left = reaches.left; leads = reaches.leads };
       comes = c.steps;
@@ -313,10 +313,10 @@ peer_next settings e (of.Device t) (of.Lpd u) what f next = absurd next
 -- the bytes that are left have no whole item
 pub rested : (settings : ServerSettings) (read : List ℕ) (progress : PeerRecord) (x y : Peer) → FitsPeer read progress false x → NextPeer settings None x y → IsActedOnAs read progress × FitsPeer read progress false y
 rested settings read progress (of.Ipp t) (of.Ipp u) f (off, (answers, is)) =
-    let all : Exchanges read f.said = answers.1 read f.said (reaches_reported read progress t f off) in
-    let reaches : Http.HasRead read f.said u.reader = subst (λ (xs : List HttpElement). Http.HasRead read xs u.reader) (append-nil f.said) (answers.0 read f.said (reaches_reported read progress t f off)) in
+    let all : Exchanges read f.parsed = answers.1 read f.parsed (reaches_reported read progress t f off) in
+    let reaches : Http.HasRead read f.parsed u.reader = subst (λ (xs : List HttpElement). Http.HasRead read xs u.reader) (append-nil f.parsed) (answers.0 read f.parsed (reaches_reported read progress t f off)) in
     let body_read : Body.HasRead f.body u.body = subst (λ (v : IppClientState). Body.HasRead f.body v.body) (sym is) (body_reported read progress t f off) in
-    let fits : FitsIpp read (entry.Http f.said t.closes f.body) u = fits_ipp read f.said t.closes f.body u.reader u reaches refl (ap (λ (v : IppClientState). v.closes) is) body_read in
+    let fits : FitsIpp read (entry.Http f.parsed t.closes f.body) u = fits_ipp read f.parsed t.closes f.body u.reader u reaches refl (ap (λ (v : IppClientState). v.closes) is) body_read in
     (subst (λ (k : PeerRecord). IsActedOnAs read k) (sym f.is) all, subst (λ (k : PeerRecord). FitsIpp read k u) (sym f.is) fits)
 rested settings read progress (of.Lpd t) (of.Lpd u) f (answers, is) =
     let all : LpdItems read f.items Open = answers.1 read f.items f.reaches in
@@ -346,28 +346,28 @@ map_bytes (x ∷ xs) ys = ap (λ (zs : List HttpElement). HasByte x ∷ zs) (map
 
 fed_ipp : (read segment : List ℕ) (progress : PeerRecord) (t u : IppClientState) → FitsIpp read progress t → IsFedIpp segment t u → FitsIpp (read ++ segment) progress u
 fed_ipp read segment progress t u f (inl (is, reaches)) =
-    let same : entry.Http f.said t.closes f.body ≡ entry.Http f.said u.closes f.body = sym (ap (λ (v : IppClientState). entry.Http f.said v.closes f.body) is) in
+    let same : entry.Http f.parsed t.closes f.body ≡ entry.Http f.parsed u.closes f.body = sym (ap (λ (v : IppClientState). entry.Http f.parsed v.closes f.body) is) in
     record {
-      said = f.said;
+      parsed = f.parsed;
       body = f.body;
       unreported = f.unreported;
       is = f.is ∙ same;
       all_reported = λ off. f.all_reported (sym (ap (λ (v : IppClientState). v.unreported) is) ∙ off);
-      reaches = reaches read (f.said ++ map HasByte f.unreported) f.reaches;
+      reaches = reaches read (f.parsed ++ map HasByte f.unreported) f.reaches;
       body_read = subst (λ (v : IppClientState). Body.HasRead (f.body ++ f.unreported) v.body) (sym is) f.body_read;
     }
 fed_ipp read segment progress t u f (inr (is, reaches, body_read)) =
-    let same : entry.Http f.said t.closes f.body ≡ entry.Http f.said u.closes f.body = sym (ap (λ (v : IppClientState). entry.Http f.said v.closes f.body) is) in
+    let same : entry.Http f.parsed t.closes f.body ≡ entry.Http f.parsed u.closes f.body = sym (ap (λ (v : IppClientState). entry.Http f.parsed v.closes f.body) is) in
     let on : u.unreported ≡ true = ap (λ (v : IppClientState). v.unreported) is in
-    let said : (f.said ++ map HasByte f.unreported) ++ map HasByte segment ≡ f.said ++ map HasByte (f.unreported ++ segment) =
-    append_assoc f.said (map HasByte f.unreported) (map HasByte segment) ∙ ap (λ (xs : List HttpElement). f.said ++ xs) (map_bytes f.unreported segment) in
+    let parsed : (f.parsed ++ map HasByte f.unreported) ++ map HasByte segment ≡ f.parsed ++ map HasByte (f.unreported ++ segment) =
+    append_assoc f.parsed (map HasByte f.unreported) (map HasByte segment) ∙ ap (λ (xs : List HttpElement). f.parsed ++ xs) (map_bytes f.unreported segment) in
     record {
-      said = f.said;
+      parsed = f.parsed;
       body = f.body;
       unreported = f.unreported ++ segment;
       is = f.is ∙ same;
       all_reported = λ off. let never : true ≡ false = sym on ∙ off in cc;
-      reaches = subst (λ (xs : List HttpElement). Http.HasRead (read ++ segment) xs u.reader) said (reaches read (f.said ++ map HasByte f.unreported) f.reaches);
+      reaches = subst (λ (xs : List HttpElement). Http.HasRead (read ++ segment) xs u.reader) parsed (reaches read (f.parsed ++ map HasByte f.unreported) f.reaches);
       body_read = subst (λ (xs : List ℕ). Body.HasRead xs u.body) (append_assoc f.body f.unreported segment) (body_read (f.body ++ f.unreported) f.body_read);
     }
 

@@ -27,20 +27,20 @@ use Rattle.connections.specs.Steps.{StepsIpp, closes_after, body_after, StepsLpd
 -- ---- the next item of a stream, after the items that were acted on
 
 -- the next item of an IPP client
-pub record IppItemComes (e : Entry) (said : List HttpElement) (closes : Bool) (body : List ℕ) (what : Step) (mid : Entry) : Type 0 where
+pub record IppItemComes (e : Entry) (parsed : List HttpElement) (closes : Bool) (body : List ℕ) (what : Step) (mid : Entry) : Type 0 where
   pub item : HttpItem
   pub part : List ℕ
-  pub next : Http.ParsesFirst e.read (said ++ elements_of item part)
+  pub next : Http.ParsesFirst e.read (parsed ++ elements_of item part)
   pub comes : StepsIpp item closes body what
-  pub after : mid ≡ with_progress (OfIpp (said ++ elements_of item part) (closes_after item closes) (body_after item what part body)) e
+  pub after : mid ≡ with_progress (OfIpp (parsed ++ elements_of item part) (closes_after item closes) (body_after item what part body)) e
 
 -- the next item of an LPD client
 pub record LpdItemComes (queues : List ℕ → Bool) (e : Entry) (items : List ItemRecord) (session : Option SessionState) (what : Step) (mid : Entry) : Type 0 where
-  pub said : ItemRecord
+  pub parsed : ItemRecord
   pub session_after : Option SessionState
-  pub next : Lpd.ParsesFirst e.read (items ++ said ∷ [])
-  pub comes : StepsLpd queues session said what session_after
-  pub after : mid ≡ with_progress (OfLpd (items ++ said ∷ []) session_after) e
+  pub next : Lpd.ParsesFirst e.read (items ++ parsed ∷ [])
+  pub comes : StepsLpd queues session parsed what session_after
+  pub after : mid ≡ with_progress (OfLpd (items ++ parsed ∷ []) session_after) e
 
 -- a fault of an LPD client's stream
 pub record FindsFault (e : Entry) (items : List ItemRecord) (what : Step) (mid : Entry) : Type 0 where
@@ -55,11 +55,11 @@ LosesLine e what mid = (what ≡ no_memory) × (mid ≡ e)
 
 -- the next report of a device
 pub record ReportComes (named : List ℕ → Option ℕ) (e : Entry) (reports : List ReportRecord) (device : Option ℕ) (what : Step) (mid : Entry) : Type 0 where
-  pub said : ReportRecord
+  pub parsed : ReportRecord
   pub device_after : Option ℕ
-  pub next : Link.ParsesFirst e.read (reports ++ said ∷ [])
-  pub comes : StepsDevice named device said what device_after
-  pub after : mid ≡ with_progress (OfDevice (reports ++ said ∷ []) device_after) e
+  pub next : Link.ParsesFirst e.read (reports ++ parsed ∷ [])
+  pub comes : StepsDevice named device parsed what device_after
+  pub after : mid ≡ with_progress (OfDevice (reports ++ parsed ∷ []) device_after) e
 
 -- a fault of a device's stream
 pub record FindsLinkFault (e : Entry) (reports : List ReportRecord) (device : Option ℕ) (what : Step) (mid : Entry) : Type 0 where
@@ -70,7 +70,7 @@ pub record FindsLinkFault (e : Entry) (reports : List ReportRecord) (device : Op
 
 -- the next item of a stream is acted on, with its step
 abbrev pub ItemComes : ServerSettings → PeerRecord → Entry → Step → Entry → Type 0
-ItemComes settings (OfIpp said closes body) e what mid = IppItemComes e said closes body what mid
+ItemComes settings (OfIpp parsed closes body) e what mid = IppItemComes e parsed closes body what mid
 ItemComes settings (OfLpd items session) e what mid = LpdItemComes (is_queue settings) e items session what mid ⊎ (FindsFault e items what mid ⊎ LosesLine e what mid)
 ItemComes settings (OfDevice reports device) e what mid = ReportComes (device_named settings) e reports device what mid ⊎ (FindsLinkFault e reports device what mid ⊎ LosesLine e what mid)
 
@@ -91,7 +91,7 @@ StepsTo (step.Breaks asked) e what new = (what ≡ asked) × (new ≡ broken e)
 
 -- all bytes that were read were acted on
 abbrev pub IsActedOnAs : List ℕ → PeerRecord → Type 0
-IsActedOnAs read (OfIpp said closes body) = Exchanges read said
+IsActedOnAs read (OfIpp parsed closes body) = Exchanges read parsed
 IsActedOnAs read (OfLpd items session) = LpdItems read items Open
 IsActedOnAs read (OfDevice reports device) = device_reports read ≡ record { reports = reports; ending = Unfinished }
 

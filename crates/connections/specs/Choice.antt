@@ -24,7 +24,7 @@ part_taken item.BodyEnd part = None
 part_taken (item.Refuse refusal) part = None
 
 abbrev pub part_acted_on : (settings : ServerSettings) (progress : PeerRecord) (e : Entry) (comes : Step) (mid : Entry) → ItemComes settings progress e comes mid → Option ℕ
-part_acted_on settings (OfIpp said closes body) e comes mid next = part_taken next.item next.part
+part_acted_on settings (OfIpp parsed closes body) e comes mid next = part_taken next.item next.part
 part_acted_on settings (OfLpd items session) e comes mid next = None
 part_acted_on settings (OfDevice reports device) e comes mid next = None
 
@@ -54,8 +54,8 @@ lost_of (ask.Fault device) = None
 
 -- two asks are the same, with equal events and equal reports
 abbrev pub SameAsk : Ask → Ask → Type 0
-SameAsk (ask.Event client event) (ask.Event other said) = (client ≡ other) × SameEvent event said
-SameAsk (ask.Report device report) (ask.Report other said) = (device ≡ other) × (report_of report ≡ report_of said)
+SameAsk (ask.Event client event) (ask.Event other parsed) = (client ≡ other) × SameEvent event parsed
+SameAsk (ask.Report device report) (ask.Report other parsed) = (device ≡ other) × (report_of report ≡ report_of parsed)
 SameAsk one other = one ≡ other
 
 -- ---- laws
@@ -63,5 +63,5 @@ SameAsk one other = one ≡ other
 -- two asks of one entry with the same choices are the same, and lead to the same entry
 abbrev pub AsksOne : Type 0
 AsksOne =
-    (settings : ServerSettings) (e : Entry) (what said : Ask) (new after : Entry) (one : AsksNext settings what e new) (other : AsksNext settings said e after)
-    → part_of one ≡ part_of other → lost_of what ≡ lost_of said → SameAsk what said × (new ≡ after)
+    (settings : ServerSettings) (e : Entry) (what parsed : Ask) (new after : Entry) (one : AsksNext settings what e new) (other : AsksNext settings parsed e after)
+    → part_of one ≡ part_of other → lost_of what ≡ lost_of parsed → SameAsk what parsed × (new ≡ after)

@@ -11,7 +11,7 @@ use Rattle.wires.specs.declared.wire.Door.TheVariants.{Ipp, Lpd, Devices}
 -- the part of a connection's bytes that was acted on, and the state that the server keeps for the rest
 pub data PeerRecord : Type 0 where
   -- the items; whether the connection closes after the reply to the current request; the current request's body so far
-  Http : (said : List HttpElement) (closes : Bool) (body : List ℕ) → PeerRecord
+  Http : (parsed : List HttpElement) (closes : Bool) (body : List ℕ) → PeerRecord
   -- the items, and the files of a queue while jobs are received
   Queue : (items : List ItemRecord) (session : Option SessionState) → PeerRecord
   -- the reports, and the device that gave its name
@@ -23,13 +23,13 @@ opening_peer Lpd = Queue [] None
 opening_peer Devices = Link [] None
 
 abbrev pub device_of : PeerRecord → Option ℕ
-device_of (Http said closes body) = None
+device_of (Http parsed closes body) = None
 device_of (Queue items session) = None
 device_of (Link reports device) = device
 
 -- whether the connection closes after the reply to the request that came last
 abbrev pub closes_of : PeerRecord → Bool
-closes_of (Http said closes body) = closes
+closes_of (Http parsed closes body) = closes
 closes_of (Queue items session) = false
 closes_of (Link reports device) = false
 
@@ -83,7 +83,7 @@ abbrev pub owing : List ℕ → Entry → Entry
 owing bytes e = record e { due = e.due ++ bytes }
 
 abbrev pub unnamed : PeerRecord → PeerRecord
-unnamed (Http said closes body) = Http said closes body
+unnamed (Http parsed closes body) = Http parsed closes body
 unnamed (Queue items session) = Queue items session
 unnamed (Link reports device) = Link reports None
 

@@ -93,8 +93,8 @@ ReportsBody what t u = (t.unreported ≡ true) × (what ≡ silent) × (u ≡ re
 -- the next item was taken off the stream and acted on
 abbrev pub TakesItem : Step → IppClientState → IppClientState → Type 0
 TakesItem what t u =
-    (said : HttpItem) × (reader : HttpState)
-    × Http.Answers t.reader (Some said) reader × (Http.work reader < Http.work t.reader) × HandlesIpp said what (with_http reader t) u
+    (parsed : HttpItem) × (reader : HttpState)
+    × Http.Answers t.reader (Some parsed) reader × (Http.work reader < Http.work t.reader) × HandlesIpp parsed what (with_http reader t) u
 
 -- the next item, if one is whole, was taken off the stream and acted on
 abbrev pub TakesIfItem : Option Step → IppClientState → IppClientState → Type 0
@@ -119,23 +119,23 @@ IsFedLpd segment t u = (u ≡ with_lpd u.reader t) × ((stream : List ℕ) (give
 
 -- the step and the session after an item that was read
 abbrev pub ComesTo : (List ℕ → Bool) → ItemRecord → Step → LpdClientState → LpdClientState → Type 0
-ComesTo queues said what t u = StepsLpd queues t.session said what u.session
+ComesTo queues parsed what t u = StepsLpd queues t.session parsed what u.session
 
 -- the step and the state after an item
 abbrev pub HandlesLpd : (List ℕ → Bool) → LpdItem → Step → LpdClientState → LpdClientState → Type 0
-HandlesLpd queues said what t u = (u.reader ≡ t.reader) × StepsLpd queues t.session (item_record said t.reader.file) what u.session
+HandlesLpd queues parsed what t u = (u.reader ≡ t.reader) × StepsLpd queues t.session (item_record parsed t.reader.file) what u.session
 
 -- the same for an item that may be incomplete
 abbrev pub HandlesLpdIfAny : (List ℕ → Bool) → Option LpdItem → Option Step → LpdClientState → LpdClientState → Type 0
 HandlesLpdIfAny queues None None t u = u ≡ t
-HandlesLpdIfAny queues (Some said) (Some what) t u = HandlesLpd queues said what t u
+HandlesLpdIfAny queues (Some parsed) (Some what) t u = HandlesLpd queues parsed what t u
 HandlesLpdIfAny queues _ _ t u = ⊥
 
 -- the next item was taken off the stream and acted on; or a fault was found; or memory for a line is refused
 abbrev pub NextLpd : (List ℕ → Bool) → Option Step → LpdClientState → LpdClientState → Type 0
 NextLpd queues None t u = Lpd.Answers t.reader (Ok None) u.reader × (u ≡ with_lpd u.reader t)
 NextLpd queues (Some what) t u =
-    ((said : LpdItem) × (reader : LpdState) × Lpd.Answers t.reader (Ok (Some said)) reader × (Lpd.work reader < Lpd.work t.reader) × HandlesLpd queues said what (with_lpd reader t) u)
+    ((parsed : LpdItem) × (reader : LpdState) × Lpd.Answers t.reader (Ok (Some parsed)) reader × (Lpd.work reader < Lpd.work t.reader) × HandlesLpd queues parsed what (with_lpd reader t) u)
     ⊎ (((fault : LpdFault) × Lpd.Answers t.reader (Err (lpd.Fault fault)) u.reader × (what ≡ refused) × (u ≡ with_lpd u.reader t))
     ⊎ (Lpd.Answers t.reader (Err lpd.OutOfMemory) u.reader × (what ≡ no_memory) × (u ≡ with_lpd u.reader t)))
 
@@ -161,23 +161,23 @@ Greets named _ what after = (what ≡ step.Breaks (ask.Fault None)) × (after �
 
 -- the step for a report, and the device that has given its name after it
 abbrev pub ComesOf : (List ℕ → Option ℕ) → Option ℕ → Report → Step → Option ℕ → Type 0
-ComesOf named None said what after = Greets named said what after
-ComesOf named (Some device) said what after = (what ≡ step.Asks (ask.Report device said) false) × (after ≡ Some device)
+ComesOf named None parsed what after = Greets named parsed what after
+ComesOf named (Some device) parsed what after = (what ≡ step.Asks (ask.Report device parsed) false) × (after ≡ Some device)
 
 abbrev pub HandlesReport : (List ℕ → Option ℕ) → Report → Step → DeviceState → DeviceState → Type 0
-HandlesReport named said what t u = (u.reader ≡ t.reader) × ComesOf named t.device said what u.device
+HandlesReport named parsed what t u = (u.reader ≡ t.reader) × ComesOf named t.device parsed what u.device
 
 -- the same for a report that may be incomplete
 abbrev pub HandlesReportIfAny : (List ℕ → Option ℕ) → Option Report → Option Step → DeviceState → DeviceState → Type 0
 HandlesReportIfAny named None None t u = u ≡ t
-HandlesReportIfAny named (Some said) (Some what) t u = HandlesReport named said what t u
+HandlesReportIfAny named (Some parsed) (Some what) t u = HandlesReport named parsed what t u
 HandlesReportIfAny named _ _ t u = ⊥
 
 -- the next report was taken off the stream and acted on; or a fault was found; or memory for a line is refused
 abbrev pub NextDevice : (List ℕ → Option ℕ) → Option Step → DeviceState → DeviceState → Type 0
 NextDevice named None t u = Link.Answers t.reader (Ok None) u.reader × (u ≡ with_link u.reader t)
 NextDevice named (Some what) t u =
-    ((said : Report) × (reader : LinkState) × Link.Answers t.reader (Ok (Some said)) reader × (Link.work reader < Link.work t.reader) × HandlesReport named said what (with_link reader t) u)
+    ((parsed : Report) × (reader : LinkState) × Link.Answers t.reader (Ok (Some parsed)) reader × (Link.work reader < Link.work t.reader) × HandlesReport named parsed what (with_link reader t) u)
     ⊎ (((fault : LinkFault) × Link.Answers t.reader (Err (link.Fault fault)) u.reader × (what ≡ faulty t.device) × (u ≡ with_link u.reader t))
     ⊎ (Link.Answers t.reader (Err link.OutOfMemory) u.reader × (what ≡ no_memory) × (u ≡ with_link u.reader t)))
 

@@ -16,13 +16,13 @@ use Rattle.connections.specs.declared.peer.Peer.TheVariants as of
 
 -- the reader of an IPP client has been fed all bytes read, and the parser of its body the body so far
 pub record FitsIpp (read : List ℕ) (progress : PeerRecord) (t : IppClientState) : Type 0 where
-  pub said : List HttpElement
+  pub parsed : List HttpElement
   pub body : List ℕ
   -- bytes that the body was fed, and that no step has reported yet
   pub unreported : List ℕ
-  pub is : progress ≡ entry.Http said t.closes body
+  pub is : progress ≡ entry.Http parsed t.closes body
   pub all_reported : t.unreported ≡ false → unreported ≡ []
-  pub reaches : Http.HasRead read (said ++ map HasByte unreported) t.reader
+  pub reaches : Http.HasRead read (parsed ++ map HasByte unreported) t.reader
   pub body_read : Body.HasRead (body ++ unreported) t.body
 
 -- the reader of an LPD client has been fed all bytes read

@@ -141,7 +141,7 @@ StepsHello name (Some device) what after = (what ≡ step.Asks (ask.Hello device
 abbrev pub StepsDevice : (List ℕ → Option ℕ) → Option ℕ → ReportRecord → Step → Option ℕ → Type 0
 StepsDevice named None (HelloReport name) what after = StepsHello name (named name) what after
 StepsDevice named None _ what after = ⊥
-StepsDevice named (Some device) said what after = ((it : Report) × (report_of it ≡ said) × (what ≡ step.Asks (ask.Report device it) false)) × (after ≡ Some device)
+StepsDevice named (Some device) parsed what after = ((it : Report) × (report_of it ≡ parsed) × (what ≡ step.Asks (ask.Report device it) false)) × (after ≡ Some device)
 
 -- the step for a fault of a device's stream
 abbrev pub faulty : Option ℕ → Step

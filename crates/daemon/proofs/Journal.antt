@@ -61,12 +61,12 @@ noted_end moment old new (heads, inr (comments, are, added)) now is =
 
 -- the text of a turn, of its parts
 text_of : (moment : ℕ) (polls : List Poll) (lines comments : List ℕ) → AreLines polls lines → are_comments comments ≡ true → IsTurnText moment polls (lines ++ (comments ++ turn_line moment))
-text_of moment polls lines comments are said = record {
+text_of moment polls lines comments are fact = record {
   lines = lines;
   comments = comments;
   restarted = false;
   are_lines = are;
-  are_comments = said;
+  are_comments = fact;
   whole = sym (append_assoc lines comments (turn_line moment));
 }
 
@@ -202,7 +202,7 @@ none_filed quiets pass moment notified before after a b c turn rests none unnoti
         journaled = rests.0.2 ∙ (turn.journaled ∙ filed.journaled);
         whole = ap (λ (n : NoteState). n.heads) rests.1 ∙ (adds.heads ∙ filed.whole);
         reaches = (stood.0, stood.1, fits);
-        file = λ text said. subst (λ (t : List ℕ). IsFile trace (stored ++ t)) (sym kept ∙ same_Some now text (sym lines ∙ said)) (filed.file l.0 l.2);
+        file = λ text fact. subst (λ (t : List ℕ). IsFile trace (stored ++ t)) (sym kept ∙ same_Some now text (sym lines ∙ fact)) (filed.file l.0 l.2);
       }),
     )
 
@@ -284,7 +284,7 @@ keeps_stored a b stored stored' kept idles heads lines none is opening trace fil
     journaled = idles.2 ∙ filed.journaled;
     whole = heads ∙ filed.whole;
     reaches = subst (λ (e : EngineState). IsAt opening trace e) (sym idles.0) filed.reaches;
-    file = λ now said. subst (λ (t : List ℕ). IsFile trace t) (sym is ∙ (sym (append-nil stored') ∙ ap (λ (t : List ℕ). stored' ++ t) (same_Some [] now (sym none ∙ said)))) (filed.file kept lines);
+    file = λ now fact. subst (λ (t : List ℕ). IsFile trace t) (sym is ∙ (sym (append-nil stored') ∙ ap (λ (t : List ℕ). stored' ++ t) (same_Some [] now (sym none ∙ fact)))) (filed.file kept lines);
   }),
 )
 

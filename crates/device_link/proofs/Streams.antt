@@ -86,7 +86,7 @@ parsed_leads greeted bytes coming (report ∷ reports) next left x =
 no_report : (report : ReportRecord) (later : ParsedLines) (fault : LinkFault) → with_prefix (report ∷ []) later ≡ silence (Faulty fault) → ⊥
 no_report report later fault is = let none : report ∷ later.reports ≡ [] = ap (λ (h : ParsedLines). h.reports) is in (cc)
 
-after_stays : (said : Option ReportRecord) (later grown : ParsedLines) (fault : LinkFault) → parsed_after said later ≡ silence (Faulty fault) → parsed_after said grown ≡ silence (Faulty fault)
+after_stays : (parsed : Option ReportRecord) (later grown : ParsedLines) (fault : LinkFault) → parsed_after parsed later ≡ silence (Faulty fault) → parsed_after parsed grown ≡ silence (Faulty fault)
 after_stays None later grown fault is = is
 after_stays (Some report) later grown fault is = absurd (no_report report later fault is)
 
@@ -227,9 +227,9 @@ first_one stream one other x y long =
     let all : one ++ a.0.reports ≡ other ++ b.0.reports = ap (λ (h : ParsedLines). h.reports) (sym a.1 ∙ b.1) in
     sym (take-append_seam one a.0.reports) ∙ ap (λ (r : List ReportRecord). take (length one) r) all ∙ ap (λ n. take n (other ++ b.0.reports)) long ∙ take-append_seam other b.0.reports
 
-pub none_follows : (stream : List ℕ) (reports : List ReportRecord) (said : ReportRecord) (ending : Ending) → ParsesFirst stream (reports ++ said ∷ []) → device_reports stream ≡ record { reports = reports; ending = ending } → ⊥
-none_follows stream reports said ending x is =
-    let a = begins_so stream (reports ++ said ∷ []) x in
-    let all : (reports ++ said ∷ []) ++ a.0.reports ≡ reports = ap (λ (h : ParsedLines). h.reports) (sym a.1 ∙ is) in
-    let long : length ((reports ++ said ∷ []) ++ a.0.reports) ≡ length reports = ap (λ (r : List ReportRecord). length r) all in
-    omega (arith, long, length-append (reports ++ said ∷ []) a.0.reports, length-append reports (said ∷ []))
+pub none_follows : (stream : List ℕ) (reports : List ReportRecord) (parsed : ReportRecord) (ending : Ending) → ParsesFirst stream (reports ++ parsed ∷ []) → device_reports stream ≡ record { reports = reports; ending = ending } → ⊥
+none_follows stream reports parsed ending x is =
+    let a = begins_so stream (reports ++ parsed ∷ []) x in
+    let all : (reports ++ parsed ∷ []) ++ a.0.reports ≡ reports = ap (λ (h : ParsedLines). h.reports) (sym a.1 ∙ is) in
+    let long : length ((reports ++ parsed ∷ []) ++ a.0.reports) ≡ length reports = ap (λ (r : List ReportRecord). length r) all in
+    omega (arith, long, length-append (reports ++ parsed ∷ []) a.0.reports, length-append reports (parsed ∷ []))

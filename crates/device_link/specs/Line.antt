@@ -31,16 +31,16 @@ unfoldable pub name_in : List ℕ → Option (List ℕ)
 name_in operand = if is_name operand then Some operand else None
 
 -- a word without operands
-unfoldable pub said_alone : List ℕ → Option ReportRecord
-said_alone word =
+unfoldable pub parsed_alone : List ℕ → Option ReportRecord
+parsed_alone word =
     if bytes_eq word (codes "READY") then Some ReadyReport
     else if bytes_eq word (codes "STOP") then Some StopReport
     else if bytes_eq word (codes "MEDIA") then Some (MediaReport [])
     else None
 
 -- a word and its one operand
-unfoldable pub said_of_one : List ℕ → List ℕ → Option ReportRecord
-said_of_one word operand =
+unfoldable pub parsed_of_one : List ℕ → List ℕ → Option ReportRecord
+parsed_of_one word operand =
     if bytes_eq word (codes "HELLO") then option_map HelloReport (name_in operand)
     else if bytes_eq word (codes "MEDIA") then option_map MediaReport (media_in operand)
     else if bytes_eq word (codes "BUSY") then option_map BusyReport (time_in operand)
@@ -49,17 +49,17 @@ said_of_one word operand =
     else None
 
 -- a word and its two operands
-unfoldable pub said_of_two : List ℕ → List ℕ → List ℕ → Option ReportRecord
-said_of_two word job printed =
+unfoldable pub parsed_of_two : List ℕ → List ℕ → List ℕ → Option ReportRecord
+parsed_of_two word job printed =
     if bytes_eq word (codes "PAGES") then option_and_then (λ id. option_map (PagesReport id) (printed_in printed)) (job_in job)
     else None
 
-abbrev pub said : List (List ℕ) → Option ReportRecord
-said [] = None
-said (word ∷ []) = said_alone word
-said (word ∷ operand ∷ []) = said_of_one word operand
-said (word ∷ job ∷ printed ∷ []) = said_of_two word job printed
-said (word ∷ first ∷ second ∷ third ∷ more) = None
+abbrev pub parsed : List (List ℕ) → Option ReportRecord
+parsed [] = None
+parsed (word ∷ []) = parsed_alone word
+parsed (word ∷ operand ∷ []) = parsed_of_one word operand
+parsed (word ∷ job ∷ printed ∷ []) = parsed_of_two word job printed
+parsed (word ∷ first ∷ second ∷ third ∷ more) = None
 
 -- the first report is the device's name, and no later report is
 abbrev pub in_turn : Bool → Option ReportRecord → Option ReportRecord
@@ -71,7 +71,7 @@ in_turn false (Some report) = None
 
 -- the report in a line, if a device may send it now
 abbrev pub report_in : Bool → List ℕ → Option ReportRecord
-report_in greeted line = in_turn greeted (said (words_of (strip_carriage_return line)))
+report_in greeted line = in_turn greeted (parsed (words_of (strip_carriage_return line)))
 
 -- a line and its line feed together have at most DEVICE_LINE_BYTES bytes
 abbrev pub fits : List ℕ → Bool

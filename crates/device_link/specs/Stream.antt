@@ -113,7 +113,7 @@ FirstIsOne = (stream : List ℕ) (one other : List ReportRecord) → ParsesFirst
 
 -- a stream contains no report after all of its reports
 abbrev pub NoneFollows : Type 0
-NoneFollows = (stream : List ℕ) (reports : List ReportRecord) (said : ReportRecord) (ending : Ending) → ParsesFirst stream (reports ++ said ∷ []) → device_reports stream ≡ record { reports = reports; ending = ending } → ⊥
+NoneFollows = (stream : List ℕ) (reports : List ReportRecord) (parsed : ReportRecord) (ending : Ending) → ParsesFirst stream (reports ++ parsed ∷ []) → device_reports stream ≡ record { reports = reports; ending = ending } → ⊥
 
 -- the reports of a whole stream are those that a reader has given, and then those that the reader's state parses from its bytes and the bytes that follow
 abbrev pub ParsesTheRest : Type 0

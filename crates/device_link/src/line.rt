@@ -5,7 +5,7 @@ ghost use Rattle.std.specs.Option.{option_map_or};
 ghost use Rattle.base_types.specs.Forms.{is_media};
 ghost use Rattle.base_types.specs.Report.{report_of};
 ghost use Rattle.text.specs.Parts.{words_of};
-ghost use Rattle.device_link.specs.Line.{media_in, name_in, said_alone, said_of_one, said_of_two, said, report_in, reported_by};
+ghost use Rattle.device_link.specs.Line.{media_in, name_in, parsed_alone, parsed_of_one, parsed_of_two, parsed, report_in, reported_by};
 
 use crate::number::{job_in, printed_in, time_in};
 use base_types::{Limits, Report, Text, is_media, is_name};
@@ -48,9 +48,9 @@ pub(crate) fn read_line(
 }
 
 /// Reads the report of a word and its operands.
-#[tactic(auto, using(crate::proofs::TooManyOperands::nothing_said))]
+#[tactic(auto, using(crate::proofs::TooManyOperands::nothing_parsed))]
 fn read_words(alloc: Global, line: &[u8]) -> Result<Option<Report>, AllocError>
-    ensures { IfOk result (λ report. option_map report_of report ≡ said (words_of line.now)) }
+    ensures { IfOk result (λ report. option_map report_of report ≡ parsed (words_of line.now)) }
 {
     let (word, operands) = split_word(line);
     let Some(operands) = operands else {
@@ -79,9 +79,9 @@ fn split_word(text: &[u8]) -> (&[u8], Option<&[u8]>)
 }
 
 /// The report of a word without operands.
-#[tactic(auto, unfolding(crate::specs::Line::said_alone))]
+#[tactic(auto, unfolding(crate::specs::Line::parsed_alone))]
 fn read_alone(alloc: Global, word: &[u8]) -> Option<Report>
-    ensures { option_map report_of result ≡ said_alone word.now }
+    ensures { option_map report_of result ≡ parsed_alone word.now }
 {
     if word == b"READY".as_slice() {
         Some(Report::Ready)
@@ -95,9 +95,9 @@ fn read_alone(alloc: Global, word: &[u8]) -> Option<Report>
 }
 
 /// Reads the report of a word and its one operand.
-#[tactic(auto, unfolding(crate::specs::Line::said_of_one))]
+#[tactic(auto, unfolding(crate::specs::Line::parsed_of_one))]
 fn read_one(alloc: Global, word: &[u8], operand: &[u8]) -> Result<Option<Report>, AllocError>
-    ensures { IfOk result (λ report. option_map report_of report ≡ said_of_one word.now operand.now) }
+    ensures { IfOk result (λ report. option_map report_of report ≡ parsed_of_one word.now operand.now) }
 {
     if word == b"HELLO".as_slice() {
         Ok(read_name(alloc, operand)?.map(|name| Report::Hello(name)))
@@ -115,9 +115,9 @@ fn read_one(alloc: Global, word: &[u8], operand: &[u8]) -> Result<Option<Report>
 }
 
 /// The report of a word and its two operands.
-#[tactic(auto, unfolding(crate::specs::Line::said_of_two))]
+#[tactic(auto, unfolding(crate::specs::Line::parsed_of_two))]
 fn read_two(word: &[u8], first: &[u8], second: &[u8]) -> Option<Report>
-    ensures { option_map report_of result ≡ said_of_two word.now first.now second.now }
+    ensures { option_map report_of result ≡ parsed_of_two word.now first.now second.now }
 {
     if word != b"PAGES".as_slice() {
         return None;

@@ -81,13 +81,13 @@ same_self (Ipp one) = record { status = refl; unsupported = refl; groups = refl 
 same_self (Lpd one) = same_lpd_self one
 same_self Nothing = tt
 
-same_as : (said one other : Response) → one ≡ said → other ≡ said → SameAnswer one other
-same_as said one other a b =
+same_as : (second one other : Response) → one ≡ second → other ≡ second → SameAnswer one other
+same_as second one other a b =
     let both : one ≡ other = a ∙ sym b in
     subst (λ x. SameAnswer one x) both (same_self one)
 
-lpd_replies : (said : LpdResponse) (one other : Effects) → AnswersLpd said one → AnswersLpd said other → SameReply one other
-lpd_replies said one other a b = record { response = same_as (Lpd said) one.response other.response a.response b.response; cancels = a.cancels ∙ sym b.cancels; documents = a.documents ∙ sym b.documents }
+lpd_replies : (second : LpdResponse) (one other : Effects) → AnswersLpd second one → AnswersLpd second other → SameReply one other
+lpd_replies second one other a b = record { response = same_as (Lpd second) one.response other.response a.response b.response; cancels = a.cancels ∙ sym b.cancels; documents = a.documents ∙ sym b.documents }
 
 -- ---- judgments
 
@@ -273,23 +273,23 @@ reports_as now place old one other same = by_report (ReportsAs now place old) (�
 -- ---- all events with the same content
 
 abbrev EndsAs : Event → Event → Type 0
-EndsAs one other = (now : ℕ) (old : State) (effects : Effects) (new : State) (said : Effects) (after : State) → StepAt one now old effects new → StepAt other now old said after → SameEnd effects new said after
+EndsAs one other = (now : ℕ) (old : State) (effects : Effects) (new : State) (second : Effects) (after : State) → StepAt one now old effects new → StepAt other now old second after → SameEnd effects new second after
 
-ends_as : (one other : Event) → ((now : ℕ) (old : State) (said : Effects) (after : State) → StepAt other now old said after → StepAt one now old said after) → EndsAs one other
-ends_as one other same now old effects new said after a b = at_once one now old effects new said after a (same now old said after b)
+ends_as : (one other : Event) → ((now : ℕ) (old : State) (second : Effects) (after : State) → StepAt other now old second after → StepAt one now old second after) → EndsAs one other
+ends_as one other same now old effects new second after a b = at_once one now old effects new second after a (same now old second after b)
 
 each_end : OfEach EndsAs
 each_end = record {
-  equal = λ event. ends_as event event (λ now old said after b. b);
+  equal = λ event. ends_as event event (λ now old second after b. b);
   files = λ one other same. ends_as (Is.SubmitFiles one) (Is.SubmitFiles other) (files_as one other same);
   lists = λ one other same. ends_as (Is.ListQueue one) (Is.ListQueue other) (lists_as one other same);
   removes = λ one other same. ends_as (Is.RemoveJobs one) (Is.RemoveJobs other) (removes_as one other same);
   reports = λ device one other same. ends_as (Is.Report device one) (Is.Report device other)
-      (λ now old said after b. record { unanswered = b.unanswered; cancels = b.cancels; reports = reports_as now device old one other same said.documents.items after b.reports });
+      (λ now old second after b. record { unanswered = b.unanswered; cancels = b.cancels; reports = reports_as now device old one other same second.documents.items after b.reports });
 }
 
-pub same_end : (old : State) (one other : Event) (moment : ℕ) (effects : Effects) (new : State) (said : Effects) (after : State) → SameEvent one other → Step old one moment effects new → Step old other moment said after → SameEnd effects new said after
-same_end old one other moment effects new said after same = by_same EndsAs each_end one other same (max moment old.last) old effects new said after
+pub same_end : (old : State) (one other : Event) (moment : ℕ) (effects : Effects) (new : State) (second : Effects) (after : State) → SameEvent one other → Step old one moment effects new → Step old other moment second after → SameEnd effects new second after
+same_end old one other moment effects new second after same = by_same EndsAs each_end one other same (max moment old.last) old effects new second after
 
 -- queries, and events that are acted on without memory
 

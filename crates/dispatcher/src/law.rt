@@ -59,7 +59,7 @@ impl<P: Planner + Drop> Core<P> {
 /// An event at a state and a moment leads to at most one state and one value of effects. The same holds for two events
 /// with the same content.
 pub fn one_step()
-    ensures { (old : State) (one other : Event) (moment : ℕ) (effects : Effects) (new : State) (said : Effects) (after : State) → SameEvent one other → Step old one moment effects new → Step old other moment said after → SameEnd effects new said after }
+    ensures { (old : State) (one other : Event) (moment : ℕ) (effects : Effects) (new : State) (second : Effects) (after : State) → SameEvent one other → Step old one moment effects new → Step old other moment second after → SameEnd effects new second after }
 {}
 
 /// Of two events with the same content, both are queries or neither is, and both take memory or neither does.

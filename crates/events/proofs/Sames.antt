@@ -31,13 +31,13 @@ abbrev is_media : ReportRecord → Bool
 is_media (MediaReport names) = true
 is_media _ = false
 
-abbrev names_said : ReportRecord → List (List ℕ)
-names_said (MediaReport names) = names
-names_said _ = []
+abbrev names_reported : ReportRecord → List (List ℕ)
+names_reported (MediaReport names) = names
+names_reported _ = []
 
 -- two reports of the same record are equal, or both name these media
 pub by_report : (P : Report → Report → Type 0) → ((report : Report) → P report report) → ((one other : Vec (List ℕ)) → one.items ≡ other.items → P (reported.Media one) (reported.Media other)) → (one other : Report) → report_of one ≡ report_of other → P one other
-by_report P equal media (reported.Media one) (reported.Media other) is = media one other (ap names_said is)
+by_report P equal media (reported.Media one) (reported.Media other) is = media one other (ap names_reported is)
 by_report P equal media (reported.Media one) other is = absurd (true≢false (ap is_media is))
 by_report P equal media one (reported.Media other) is = absurd (true≢false (sym (ap is_media is)))
 by_report P equal media one other is = let same : one ≡ other = ap plain_report is in subst (λ (r : Report). P one r) same (equal one)

@@ -20,7 +20,7 @@ pub record Replies (status : Status) (unsupported : List IppAttribute) (groups :
   pub documents : reply.documents.items ≡ []
 
 -- effects with this response for an LPD client, no cancels and no documents
-pub record AnswersLpd (said : LpdResponse) (reply : Effects) : Type 0 where
-  pub response : reply.response ≡ responds.Lpd said
+pub record AnswersLpd (answer : LpdResponse) (reply : Effects) : Type 0 where
+  pub response : reply.response ≡ responds.Lpd answer
   pub cancels : reply.cancels.items ≡ []
   pub documents : reply.documents.items ≡ []

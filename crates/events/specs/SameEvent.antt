@@ -30,5 +30,5 @@ abbrev pub SameEvent : Event → Event → Type 0
 SameEvent (Is.SubmitFiles one) (Is.SubmitFiles other) = SameFiles one other
 SameEvent (Is.ListQueue one) (Is.ListQueue other) = SameList one other
 SameEvent (Is.RemoveJobs one) (Is.RemoveJobs other) = SameRemoval one other
-SameEvent (Is.Report device report) (Is.Report other said) = (device ≡ other) × (report_of report ≡ report_of said)
+SameEvent (Is.Report device report) (Is.Report other reported) = (device ≡ other) × (report_of report ≡ report_of reported)
 SameEvent one other = one ≡ other

@@ -167,13 +167,13 @@ step_by old Nothing is = (step.Waits, old, (refl, subst (λ (a : Awaited). Prefi
 abbrev HasMore : List ℕ → List HttpElement → Type 0
 HasMore stream given = (later : List HttpElement) × Exchanges stream (given ++ later)
 
-parses_after : (stream : List ℕ) (given said : List HttpElement) → HasMore stream (given ++ said) → HasMore stream given
-parses_after stream given said on = (said ++ on.0, subst (λ (s : List HttpElement). Exchanges stream s) (append_assoc given said on.0) on.1)
+parses_after : (stream : List ℕ) (given parsed : List HttpElement) → HasMore stream (given ++ parsed) → HasMore stream given
+parses_after stream given parsed on = (parsed ++ on.0, subst (λ (s : List HttpElement). Exchanges stream s) (append_assoc given parsed on.0) on.1)
 
-by_step : (old : HttpState) (stream : List ℕ) (given : List HttpElement) → HasRead stream given old → ((new : HttpState) (said : List HttpElement) → work new < work old → HasRead stream (given ++ said) new → HasMore stream (given ++ said)) → (answer : Step) (new : HttpState) → Steps old answer new → HasMore stream given
+by_step : (old : HttpState) (stream : List ℕ) (given : List HttpElement) → HasRead stream given old → ((new : HttpState) (parsed : List HttpElement) → work new < work old → HasRead stream (given ++ parsed) new → HasMore stream (given ++ parsed)) → (answer : Step) (new : HttpState) → Steps old answer new → HasMore stream given
 by_step old stream given reaches again (step.Gives it) new went =
-    let said = elements_of it new.part in
-    parses_after stream given said (again new said went.2 (went.0 stream given reaches))
+    let parsed = elements_of it new.part in
+    parses_after stream given parsed (again new parsed went.2 (went.0 stream given reaches))
 by_step old stream given reaches again step.Passes new went = parses_after stream given [] (again new [] (rank_passed old new went.1) (went.0 stream given reaches))
 by_step old stream given reaches again step.Waits new went = ([], subst (λ (s : List HttpElement). Exchanges stream s) (sym (append-nil given)) (tells_all old went.1 stream given reaches))
 
@@ -181,10 +181,10 @@ parses_in : (bound : ℕ) (old : HttpState) → work old < bound → (stream : L
 parses_in zero old less stream given reaches = absurd (omega (arith, less))
 parses_in (suc bound) old less stream given reaches =
     let it = step_by old old.awaited refl in
-    by_step old stream given reaches (λ new said lower on. parses_in bound new (omega (arith, less, lower)) stream (given ++ said) on) it.0 it.1 it.2
+    by_step old stream given reaches (λ new parsed lower on. parses_in bound new (omega (arith, less, lower)) stream (given ++ parsed) on) it.0 it.1 it.2
 
 pub gives_prefix : (stream : List ℕ) (given : List HttpElement) (reader : HttpState) → HasRead stream given reader → (later : List HttpElement) × Exchanges stream (given ++ later)
 gives_prefix stream given reader reaches = parses_in (work reader + 1) reader (omega arith) stream given reaches
 
-pub parses_some : (stream : List ℕ) → (said : List HttpElement) × Exchanges stream said
+pub parses_some : (stream : List ℕ) → (parsed : List HttpElement) × Exchanges stream parsed
 parses_some stream = gives_prefix stream [] (record { part = []; rest = stream; awaited = Head }) (record { left = stream; leads = (zero, (refl, refl, refl)); kept = inr refl })

@@ -71,58 +71,58 @@ prefix_one Nothing bytes a b x y = x ∙ sym y
 
 -- the prefix stays where more comes
 
-pub goes_is : (said parsed : List HttpElement) (rest left : List ℕ) (next after : Awaited) → Goes said rest next ≡ Goes parsed left after → (said ≡ parsed) × (rest ≡ left) × (next ≡ after)
-goes_is said parsed rest left next after same = ((cc), (cc), (cc))
+pub goes_is : (parsed reparsed : List HttpElement) (rest left : List ℕ) (next after : Awaited) → Goes parsed rest next ≡ Goes reparsed left after → (parsed ≡ reparsed) × (rest ≡ left) × (next ≡ after)
+goes_is parsed reparsed rest left next after same = ((cc), (cc), (cc))
 
 abbrev MoreOf : List ℕ → Prefix → Prefix → Type 0
-MoreOf more prefix grown = (said : List HttpElement) (rest : List ℕ) (next : Awaited) → Goes said rest next ≡ prefix → Goes said (rest ++ more) next ≡ grown
+MoreOf more prefix grown = (parsed : List HttpElement) (rest : List ℕ) (next : Awaited) → Goes parsed rest next ≡ prefix → Goes parsed (rest ++ more) next ≡ grown
 
-goes_more : (more : List ℕ) (parsed : List HttpElement) (left : List ℕ) (after : Awaited) → MoreOf more (Goes parsed left after) (Goes parsed (left ++ more) after)
-goes_more more parsed left after said rest next is =
-    let parts = goes_is said parsed rest left next after is in
+goes_more : (more : List ℕ) (reparsed : List HttpElement) (left : List ℕ) (after : Awaited) → MoreOf more (Goes reparsed left after) (Goes reparsed (left ++ more) after)
+goes_more more reparsed left after parsed rest next is =
+    let parts = goes_is parsed reparsed rest left next after is in
     rw (parts.0, parts.1, parts.2) refl
 
 waits_more : (more : List ℕ) (grown : Prefix) → MoreOf more Waits grown
-waits_more more grown said rest next is = absurd (let no : Goes said rest next ≡ Waits = is in (cc))
+waits_more more grown parsed rest next is = absurd (let no : Goes parsed rest next ≡ Waits = is in (cc))
 
 if_more : (more : List ℕ) (t : Bool) (f g grown late : Prefix) → MoreOf more f grown → MoreOf more g late → MoreOf more (if t then f else g) (if t then grown else late)
 if_more more true f g grown late first second = first
 if_more more false f g grown late first second = second
 
 as_more : (more : List ℕ) (prefix grown same : Prefix) → MoreOf more prefix grown → grown ≡ same → MoreOf more prefix same
-as_more more prefix grown same first is said rest next goes = first said rest next goes ∙ is
+as_more more prefix grown same first is parsed rest next goes = first parsed rest next goes ∙ is
 
 begun_more : (asked : Result Request HttpRejection) (bytes more : List ℕ) → MoreOf more (begun asked bytes) (begun asked (bytes ++ more))
 begun_more (Ok request) bytes more = goes_more more _ bytes _
 begun_more (Err refusal) bytes more = goes_more more _ bytes _
 
-head_more : (bytes more : List ℕ) (line : FirstLine) (said : List HttpElement) (rest : List ℕ) (next : Awaited) → section_in HTTP_HEAD_BYTES bytes ≡ line → HeadIn bytes line (Goes said rest next) → HeadIn (bytes ++ more) (section_in HTTP_HEAD_BYTES (bytes ++ more)) (Goes said (rest ++ more) next)
-head_more bytes more (Whole count) said rest next lines x =
+head_more : (bytes more : List ℕ) (line : FirstLine) (parsed : List HttpElement) (rest : List ℕ) (next : Awaited) → section_in HTTP_HEAD_BYTES bytes ≡ line → HeadIn bytes line (Goes parsed rest next) → HeadIn (bytes ++ more) (section_in HTTP_HEAD_BYTES (bytes ++ more)) (Goes parsed (rest ++ more) next)
+head_more bytes more (Whole count) parsed rest next lines x =
     let within = section_within HTTP_HEAD_BYTES bytes count lines in
     let first : take count (bytes ++ more) ≡ take count bytes = take-append-le count bytes more within in
     let later : drop count (bytes ++ more) ≡ drop count bytes ++ more = drop-append-le count bytes more within in
-    let head : HeadIn (bytes ++ more) (Whole count) (Goes said (rest ++ more) next) = (x.0, subst (λ b. Asks b x.0) (sym first) x.1, begun_more x.0 (drop count bytes) more said rest next x.2 ∙ ap (λ r. begun x.0 r) (sym later)) in
-    subst (λ s. HeadIn (bytes ++ more) s (Goes said (rest ++ more) next)) (sym (section_whole HTTP_HEAD_BYTES bytes more count lines)) head
-head_more bytes more TooLong said rest next lines x =
-    subst (λ s. HeadIn (bytes ++ more) s (Goes said (rest ++ more) next)) (sym (section_long HTTP_HEAD_BYTES bytes more lines)) (goes_more more _ bytes _ said rest next x)
-head_more bytes more Unfinished said rest next lines x = absurd (let no : Goes said rest next ≡ Waits = x in (cc))
+    let head : HeadIn (bytes ++ more) (Whole count) (Goes parsed (rest ++ more) next) = (x.0, subst (λ b. Asks b x.0) (sym first) x.1, begun_more x.0 (drop count bytes) more parsed rest next x.2 ∙ ap (λ r. begun x.0 r) (sym later)) in
+    subst (λ s. HeadIn (bytes ++ more) s (Goes parsed (rest ++ more) next)) (sym (section_whole HTTP_HEAD_BYTES bytes more count lines)) head
+head_more bytes more TooLong parsed rest next lines x =
+    subst (λ s. HeadIn (bytes ++ more) s (Goes parsed (rest ++ more) next)) (sym (section_long HTTP_HEAD_BYTES bytes more lines)) (goes_more more _ bytes _ parsed rest next x)
+head_more bytes more Unfinished parsed rest next lines x = absurd (let no : Goes parsed rest next ≡ Waits = x in (cc))
 
 sized_more : (size : Option ℕ) (room : ℕ) (closes : Bool) (bytes more : List ℕ) → MoreOf more (sized size room closes bytes) (sized size room closes (bytes ++ more))
 sized_more None room closes bytes more = goes_more more _ bytes _
 sized_more (Some size) room closes bytes more =
     if_more more (size == 0) _ _ _ _ (goes_more more _ bytes _) (if_more more (nat_le size room) _ _ _ _ (goes_more more _ bytes _) (goes_more more _ bytes _))
 
-size_more : (bytes more : List ℕ) (room : ℕ) (closes : Bool) (line : FirstLine) (said : List HttpElement) (rest : List ℕ) (next : Awaited) → first_line_of HTTP_CHUNK_LINE_BYTES bytes ≡ line → SizeIn bytes room closes line (Goes said rest next) → SizeIn (bytes ++ more) room closes (first_line_of HTTP_CHUNK_LINE_BYTES (bytes ++ more)) (Goes said (rest ++ more) next)
-size_more bytes more room closes (Whole count) said rest next line x =
+size_more : (bytes more : List ℕ) (room : ℕ) (closes : Bool) (line : FirstLine) (parsed : List HttpElement) (rest : List ℕ) (next : Awaited) → first_line_of HTTP_CHUNK_LINE_BYTES bytes ≡ line → SizeIn bytes room closes line (Goes parsed rest next) → SizeIn (bytes ++ more) room closes (first_line_of HTTP_CHUNK_LINE_BYTES (bytes ++ more)) (Goes parsed (rest ++ more) next)
+size_more bytes more room closes (Whole count) parsed rest next line x =
     let inside = size_within bytes count line in
     let within : count + 1 ≤ length bytes = omega (arith, inside) in
     let first : take (count + 1) (bytes ++ more) ≡ take (count + 1) bytes = take-append-le (count + 1) bytes more within in
     let later : drop (count + 1) (bytes ++ more) ≡ drop (count + 1) bytes ++ more = drop-append-le (count + 1) bytes more within in
-    let whole : SizeIn (bytes ++ more) room closes (Whole count) (Goes said (rest ++ more) next) = (x.0, subst (λ b. IsSizeOf b x.0) (sym first) x.1, sized_more x.0 room closes (drop (count + 1) bytes) more said rest next x.2 ∙ ap (λ r. sized x.0 room closes r) (sym later)) in
-    subst (λ l. SizeIn (bytes ++ more) room closes l (Goes said (rest ++ more) next)) (sym (line_grown HTTP_CHUNK_LINE_BYTES bytes more count line)) whole
-size_more bytes more room closes TooLong said rest next line x =
-    subst (λ l. SizeIn (bytes ++ more) room closes l (Goes said (rest ++ more) next)) (sym (too_long_grown HTTP_CHUNK_LINE_BYTES bytes more line)) (goes_more more _ bytes _ said rest next x)
-size_more bytes more room closes Unfinished said rest next line x = absurd (let no : Goes said rest next ≡ Waits = x in (cc))
+    let whole : SizeIn (bytes ++ more) room closes (Whole count) (Goes parsed (rest ++ more) next) = (x.0, subst (λ b. IsSizeOf b x.0) (sym first) x.1, sized_more x.0 room closes (drop (count + 1) bytes) more parsed rest next x.2 ∙ ap (λ r. sized x.0 room closes r) (sym later)) in
+    subst (λ l. SizeIn (bytes ++ more) room closes l (Goes parsed (rest ++ more) next)) (sym (line_grown HTTP_CHUNK_LINE_BYTES bytes more count line)) whole
+size_more bytes more room closes TooLong parsed rest next line x =
+    subst (λ l. SizeIn (bytes ++ more) room closes l (Goes parsed (rest ++ more) next)) (sym (too_long_grown HTTP_CHUNK_LINE_BYTES bytes more line)) (goes_more more _ bytes _ parsed rest next x)
+size_more bytes more room closes Unfinished parsed rest next line x = absurd (let no : Goes parsed rest next ≡ Waits = x in (cc))
 
 chunk_more : (bytes more : List ℕ) (room : ℕ) (closes : Bool) (at : ChunkEnd) → chunk_end bytes ≡ at → MoreOf more (chunk_prefix room closes bytes at) (chunk_prefix room closes (bytes ++ more) (chunk_end (bytes ++ more)))
 chunk_more bytes more room closes end.Whole is =
@@ -156,52 +156,52 @@ by_case : (t : Bool) (P Q P' Q' : Type 0) → (P → P') → (Q → Q') → Matc
 by_case true P Q P' Q' p q x = p x
 by_case false P Q P' Q' p q x = q x
 
-prefix_more : (awaited : Awaited) (bytes more : List ℕ) (said : List HttpElement) (rest : List ℕ) (next : Awaited) → PrefixIs awaited bytes (Goes said rest next) → PrefixIs awaited (bytes ++ more) (Goes said (rest ++ more) next)
-prefix_more Head [] more said rest next x = absurd (let no : Goes said rest next ≡ Waits = x in (cc))
-prefix_more Head (byte ∷ bytes) more said rest next x =
-    by_case (is_line_end byte) _ _ _ _ (goes_more more [] bytes Head said rest next) (head_more (byte ∷ bytes) more (section_in HTTP_HEAD_BYTES (byte ∷ bytes)) said rest next refl) x
-prefix_more (Invitation framing closes) bytes more said rest next x = goes_more more _ bytes _ said rest next x
-prefix_more (Body count after) bytes more said rest next x = if_more more (count == 0) _ _ _ _ (following_more after bytes more) (byte_more count after bytes more) said rest next x
-prefix_more (Size room closes) bytes more said rest next x = size_more bytes more room closes (first_line_of HTTP_CHUNK_LINE_BYTES bytes) said rest next refl x
-prefix_more (Trailer closes) bytes more said rest next x = trailer_more bytes more closes (section_in HTTP_TRAILER_BYTES bytes) refl said rest next x
-prefix_more Nothing bytes more said rest next x = absurd (let no : Goes said rest next ≡ Waits = x in (cc))
+prefix_more : (awaited : Awaited) (bytes more : List ℕ) (parsed : List HttpElement) (rest : List ℕ) (next : Awaited) → PrefixIs awaited bytes (Goes parsed rest next) → PrefixIs awaited (bytes ++ more) (Goes parsed (rest ++ more) next)
+prefix_more Head [] more parsed rest next x = absurd (let no : Goes parsed rest next ≡ Waits = x in (cc))
+prefix_more Head (byte ∷ bytes) more parsed rest next x =
+    by_case (is_line_end byte) _ _ _ _ (goes_more more [] bytes Head parsed rest next) (head_more (byte ∷ bytes) more (section_in HTTP_HEAD_BYTES (byte ∷ bytes)) parsed rest next refl) x
+prefix_more (Invitation framing closes) bytes more parsed rest next x = goes_more more _ bytes _ parsed rest next x
+prefix_more (Body count after) bytes more parsed rest next x = if_more more (count == 0) _ _ _ _ (following_more after bytes more) (byte_more count after bytes more) parsed rest next x
+prefix_more (Size room closes) bytes more parsed rest next x = size_more bytes more room closes (first_line_of HTTP_CHUNK_LINE_BYTES bytes) parsed rest next refl x
+prefix_more (Trailer closes) bytes more parsed rest next x = trailer_more bytes more closes (section_in HTTP_TRAILER_BYTES bytes) refl parsed rest next x
+prefix_more Nothing bytes more parsed rest next x = absurd (let no : Goes parsed rest next ≡ Waits = x in (cc))
 
 -- whole streams
 
-pub stays_in : (n m : ℕ) (awaited : Awaited) (bytes more : List ℕ) (given : List HttpElement) (next : Awaited) (left : List ℕ) (said : List HttpElement) → LeadsIn n awaited bytes given next left → ParsesIn m awaited (bytes ++ more) said → (later : List HttpElement) × (said ≡ given ++ later)
-stays_in zero m awaited bytes more given next left said x y = (said, rw x.0 refl)
-stays_in (suc n) zero awaited bytes more given next left said x y = absurd (
+pub stays_in : (n m : ℕ) (awaited : Awaited) (bytes more : List ℕ) (given : List HttpElement) (next : Awaited) (left : List ℕ) (parsed : List HttpElement) → LeadsIn n awaited bytes given next left → ParsesIn m awaited (bytes ++ more) parsed → (later : List HttpElement) × (parsed ≡ given ++ later)
+stays_in zero m awaited bytes more given next left parsed x y = (parsed, rw x.0 refl)
+stays_in (suc n) zero awaited bytes more given next left parsed x y = absurd (
     let no : Goes x.0 (x.1 ++ more) x.2 ≡ Waits = prefix_one awaited (bytes ++ more) _ _ (prefix_more awaited bytes more x.0 x.1 x.2 x.4) y.1 in
     (cc)
     )
-stays_in (suc n) (suc m) awaited bytes more given next left said x y =
+stays_in (suc n) (suc m) awaited bytes more given next left parsed x y =
     let same = goes_is _ _ _ _ _ _ (prefix_one awaited (bytes ++ more) (Goes x.0 (x.1 ++ more) x.2) (Goes y.0 y.1 y.2) (prefix_more awaited bytes more x.0 x.1 x.2 x.4) y.4) in
     let tail : ParsesIn m x.2 (x.1 ++ more) y.3 = subst (λ a. ParsesIn m a (x.1 ++ more) y.3) (sym same.2) (subst (λ b. ParsesIn m y.2 b y.3) (sym same.1) y.6) in
     let later = stays_in n m x.2 x.1 more x.3 next left y.3 x.6 tail in
     (later.0, y.5 ∙ ap (λ s. s ++ y.3) (sym same.0) ∙ ap (λ s. x.0 ++ s) later.1 ∙ sym (append_assoc x.0 x.3 later.0) ∙ ap (λ s. s ++ later.0) (sym x.5))
 
--- the elements that all of the bytes say are said first
-pub said_first : (n : ℕ) (awaited : Awaited) (bytes : List ℕ) (said : List HttpElement) → ParsesIn n awaited bytes said → (next : Awaited) × (left : List ℕ) × LeadsIn n awaited bytes said next left
-said_first zero awaited bytes said x = (awaited, bytes, (x.0, refl, refl))
-said_first (suc n) awaited bytes said x =
-    let tail = said_first n x.2 x.1 x.3 x.6 in
+-- the elements of all of the bytes are parsed first
+pub parsed_first : (n : ℕ) (awaited : Awaited) (bytes : List ℕ) (parsed : List HttpElement) → ParsesIn n awaited bytes parsed → (next : Awaited) × (left : List ℕ) × LeadsIn n awaited bytes parsed next left
+parsed_first zero awaited bytes parsed x = (awaited, bytes, (x.0, refl, refl))
+parsed_first (suc n) awaited bytes parsed x =
+    let tail = parsed_first n x.2 x.1 x.3 x.6 in
     (tail.0, tail.1, (x.0, x.1, x.2, x.3, x.4, x.5, tail.2))
 
-pub leads_more : (n : ℕ) (awaited : Awaited) (bytes more : List ℕ) (said : List HttpElement) (next : Awaited) (left : List ℕ) → LeadsIn n awaited bytes said next left → LeadsIn n awaited (bytes ++ more) said next (left ++ more)
-leads_more zero awaited bytes more said next left x = (x.0, x.1, ap (λ l. l ++ more) x.2)
-leads_more (suc n) awaited bytes more said next left x =
+pub leads_more : (n : ℕ) (awaited : Awaited) (bytes more : List ℕ) (parsed : List HttpElement) (next : Awaited) (left : List ℕ) → LeadsIn n awaited bytes parsed next left → LeadsIn n awaited (bytes ++ more) parsed next (left ++ more)
+leads_more zero awaited bytes more parsed next left x = (x.0, x.1, ap (λ l. l ++ more) x.2)
+leads_more (suc n) awaited bytes more parsed next left x =
     (x.0, x.1 ++ more, x.2, x.3, prefix_more awaited bytes more x.0 x.1 x.2 x.4, x.5, leads_more n x.2 x.1 more x.3 next left x.6)
 
-pub parses_one : (n m : ℕ) (awaited : Awaited) (bytes : List ℕ) (given said : List HttpElement) → ParsesIn n awaited bytes given → ParsesIn m awaited bytes said → given ≡ said
-parses_one zero zero awaited bytes given said x y = x.0 ∙ sym y.0
-parses_one zero (suc m) awaited bytes given said x y = absurd (let no : Goes y.0 y.1 y.2 ≡ Waits = prefix_one awaited bytes _ _ y.4 x.1 in (cc))
-parses_one (suc n) zero awaited bytes given said x y = absurd (let no : Goes x.0 x.1 x.2 ≡ Waits = prefix_one awaited bytes _ _ x.4 y.1 in (cc))
-parses_one (suc n) (suc m) awaited bytes given said x y =
+pub parses_one : (n m : ℕ) (awaited : Awaited) (bytes : List ℕ) (given parsed : List HttpElement) → ParsesIn n awaited bytes given → ParsesIn m awaited bytes parsed → given ≡ parsed
+parses_one zero zero awaited bytes given parsed x y = x.0 ∙ sym y.0
+parses_one zero (suc m) awaited bytes given parsed x y = absurd (let no : Goes y.0 y.1 y.2 ≡ Waits = prefix_one awaited bytes _ _ y.4 x.1 in (cc))
+parses_one (suc n) zero awaited bytes given parsed x y = absurd (let no : Goes x.0 x.1 x.2 ≡ Waits = prefix_one awaited bytes _ _ x.4 y.1 in (cc))
+parses_one (suc n) (suc m) awaited bytes given parsed x y =
     let same = goes_is _ _ _ _ _ _ (prefix_one awaited bytes (Goes x.0 x.1 x.2) (Goes y.0 y.1 y.2) x.4 y.4) in
     let tail : ParsesIn m x.2 x.1 y.3 = subst (λ a. ParsesIn m a x.1 y.3) (sym same.2) (subst (λ b. ParsesIn m y.2 b y.3) (sym same.1) y.6) in
     x.5 ∙ ap (λ s. s ++ x.3) same.0 ∙ ap (λ s. y.0 ++ s) (parses_one n m x.2 x.1 x.3 y.3 x.6 tail) ∙ sym y.5
 
-none_of : (said : List HttpElement) → length said ≡ 0 → said ≡ []
+none_of : (parsed : List HttpElement) → length parsed ≡ 0 → parsed ≡ []
 none_of [] same = refl
 none_of (one ∷ more) same = absurd (omega (arith, same))
 

@@ -29,8 +29,8 @@ use Rattle.http_front.proofs.Sections.{section_within, section_some}
 abbrev pub tail : HttpState → ℕ → Awaited → HttpState
 tail old count next = record { part = []; rest = drop count old.rest; awaited = next }
 
-goes : (old : HttpState) (awaited : Awaited) (said : List HttpElement) (count : ℕ) (next : Awaited) → old.awaited ≡ awaited → PrefixIs awaited old.rest (Goes said (drop count old.rest) next) → Advances old said (tail old count next)
-goes old awaited said count next is prefix = advance old said (tail old count next) (subst (λ a. PrefixIs a old.rest (Goes said (drop count old.rest) next)) (sym is) prefix)
+goes : (old : HttpState) (awaited : Awaited) (parsed : List HttpElement) (count : ℕ) (next : Awaited) → old.awaited ≡ awaited → PrefixIs awaited old.rest (Goes parsed (drop count old.rest) next) → Advances old parsed (tail old count next)
+goes old awaited parsed count next is prefix = advance old parsed (tail old count next) (subst (λ a. PrefixIs a old.rest (Goes parsed (drop count old.rest) next)) (sym is) prefix)
 
 shorter : (bytes : List ℕ) (count : ℕ) → 0 < count → count ≤ length bytes → length (drop count bytes) < length bytes
 shorter bytes count some within = omega (arith, some, within, length-drop count bytes)
@@ -152,9 +152,9 @@ refuses_long_size old room closes is line = (
 )
 
 -- which prefix a size makes
-sized_as : (old : HttpState) (count room : ℕ) (closes : Bool) (size : Option ℕ) (said : List HttpElement) (next : Awaited) → old.awaited ≡ Size room closes → first_line_of HTTP_CHUNK_LINE_BYTES old.rest ≡ Whole count → IsSizeOf (take (count + 1) old.rest) size → ((rest : List ℕ) → sized size room closes rest ≡ Goes said rest next) → Advances old said (tail old (count + 1) next)
-sized_as old count room closes size said next is line tells same =
-    goes old (Size room closes) said (count + 1) next is
+sized_as : (old : HttpState) (count room : ℕ) (closes : Bool) (size : Option ℕ) (parsed : List HttpElement) (next : Awaited) → old.awaited ≡ Size room closes → first_line_of HTTP_CHUNK_LINE_BYTES old.rest ≡ Whole count → IsSizeOf (take (count + 1) old.rest) size → ((rest : List ℕ) → sized size room closes rest ≡ Goes parsed rest next) → Advances old parsed (tail old (count + 1) next)
+sized_as old count room closes size parsed next is line tells same =
+    goes old (Size room closes) parsed (count + 1) next is
     (subst (λ prefix. PrefixIs (Size room closes) old.rest prefix) (same (drop (count + 1) old.rest)) (size_prefix old.rest count room closes size line tells))
 
 pub refuses_size : (old : HttpState) (count room : ℕ) (closes : Bool) → old.awaited ≡ Size room closes → first_line_of HTTP_CHUNK_LINE_BYTES old.rest ≡ Whole count → IsSizeOf (take (count + 1) old.rest) None → Steps old (step.Gives (item.Refuse BadRequest)) (tail old (count + 1) Nothing)

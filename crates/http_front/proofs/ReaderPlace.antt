@@ -7,7 +7,7 @@ use Rattle.http_front.specs.declared.awaited.Following.{Following}
 use Rattle.http_front.specs.declared.awaited.Awaited.TheVariants.{Head, Invitation, Body, Size, Trailer, Nothing}
 use Rattle.http_front.specs.Stream.{HttpElement, HasByte, Goes, Waits, ParsesIn, Parses, Exchanges, ParsesFirst, HttpState, IsOver, HasRead, HasLeft, AwaitsBody, past_body}
 use Rattle.http_front.proofs.Steps.{parses_then, lends}
-use Rattle.http_front.proofs.Laws.{stays_in, said_first, leads_more}
+use Rattle.http_front.proofs.Laws.{stays_in, parsed_first, leads_more}
 
 kept_fed : (reader : HttpState) (left segment : List ℕ) → (IsOver reader ⊎ (left ≡ reader.rest)) → IsOver reader ⊎ (left ++ segment ≡ reader.rest ++ segment)
 kept_fed reader left segment (inl over) = inl over
@@ -35,28 +35,28 @@ fed_by old new segment (Err error) is = tt
 
 -- laws of the elements that were given
 
-nothing_in : (steps : ℕ) (bytes other : List ℕ) (said : List HttpElement) → ParsesIn steps Nothing bytes said → ParsesIn steps Nothing other said
-nothing_in zero bytes other said parses = parses
-nothing_in (suc steps) bytes other said parses = absurd (let no : Goes parses.0 parses.1 parses.2 ≡ Waits = parses.4 in (cc))
+nothing_in : (steps : ℕ) (bytes other : List ℕ) (parsed : List HttpElement) → ParsesIn steps Nothing bytes parsed → ParsesIn steps Nothing other parsed
+nothing_in zero bytes other parsed parses = parses
+nothing_in (suc steps) bytes other parsed parses = absurd (let no : Goes parses.0 parses.1 parses.2 ≡ Waits = parses.4 in (cc))
 
-parses_of : (reader : HttpState) (left coming : List ℕ) (said : List HttpElement) → (IsOver reader ⊎ (left ≡ reader.rest)) → (steps : ℕ) → ParsesIn steps reader.awaited (reader.rest ++ coming) said → ParsesIn steps reader.awaited (left ++ coming) said
-parses_of reader left coming said (inl over) steps parses =
-    let here : ParsesIn steps Nothing (reader.rest ++ coming) said = subst (λ (a : Awaited). ParsesIn steps a (reader.rest ++ coming) said) over parses in
-    subst (λ (a : Awaited). ParsesIn steps a (left ++ coming) said) (sym over) (nothing_in steps (reader.rest ++ coming) (left ++ coming) said here)
-parses_of reader left coming said (inr same) steps parses = subst (λ (l : List ℕ). ParsesIn steps reader.awaited (l ++ coming) said) (sym same) parses
+parses_of : (reader : HttpState) (left coming : List ℕ) (parsed : List HttpElement) → (IsOver reader ⊎ (left ≡ reader.rest)) → (steps : ℕ) → ParsesIn steps reader.awaited (reader.rest ++ coming) parsed → ParsesIn steps reader.awaited (left ++ coming) parsed
+parses_of reader left coming parsed (inl over) steps parses =
+    let here : ParsesIn steps Nothing (reader.rest ++ coming) parsed = subst (λ (a : Awaited). ParsesIn steps a (reader.rest ++ coming) parsed) over parses in
+    subst (λ (a : Awaited). ParsesIn steps a (left ++ coming) parsed) (sym over) (nothing_in steps (reader.rest ++ coming) (left ++ coming) parsed here)
+parses_of reader left coming parsed (inr same) steps parses = subst (λ (l : List ℕ). ParsesIn steps reader.awaited (l ++ coming) parsed) (sym same) parses
 
-pub has_read_rest : (stream coming : List ℕ) (given said : List HttpElement) (reader : HttpState) → HasRead stream given reader → Parses reader.awaited (reader.rest ++ coming) said → Exchanges (stream ++ coming) (given ++ said)
-has_read_rest stream coming given said reader reaches parses =
+pub has_read_rest : (stream coming : List ℕ) (given parsed : List HttpElement) (reader : HttpState) → HasRead stream given reader → Parses reader.awaited (reader.rest ++ coming) parsed → Exchanges (stream ++ coming) (given ++ parsed)
+has_read_rest stream coming given parsed reader reaches parses =
     let first = leads_more reaches.leads.0 Head stream coming given reader.awaited reaches.left reaches.leads.1 in
-    parses_then reaches.leads.0 parses.0 Head (stream ++ coming) given reader.awaited (reaches.left ++ coming) said first (parses_of reader reaches.left coming said reaches.kept parses.0 parses.1)
+    parses_then reaches.leads.0 parses.0 Head (stream ++ coming) given reader.awaited (reaches.left ++ coming) parsed first (parses_of reader reaches.left coming parsed reaches.kept parses.0 parses.1)
 
-pub first_stays : (stream more : List ℕ) (first said : List HttpElement) → ParsesFirst stream first → Exchanges (stream ++ more) said → (later : List HttpElement) × (said ≡ first ++ later)
-first_stays stream more first said x y = stays_in x.leads.0 y.0 Head stream more first x.next x.left said x.leads.1 y.1
+pub first_stays : (stream more : List ℕ) (first parsed : List HttpElement) → ParsesFirst stream first → Exchanges (stream ++ more) parsed → (later : List HttpElement) × (parsed ≡ first ++ later)
+first_stays stream more first parsed x y = stays_in x.leads.0 y.0 Head stream more first x.next x.left parsed x.leads.1 y.1
 
-pub all_stays : (stream more : List ℕ) (given said : List HttpElement) → Exchanges stream given → Exchanges (stream ++ more) said → (later : List HttpElement) × (said ≡ given ++ later)
-all_stays stream more given said x y =
-    let first = said_first x.0 Head stream given x.1 in
-    stays_in x.0 y.0 Head stream more given first.0 first.1 said first.2 y.1
+pub all_stays : (stream more : List ℕ) (given parsed : List HttpElement) → Exchanges stream given → Exchanges (stream ++ more) parsed → (later : List HttpElement) × (parsed ≡ given ++ later)
+all_stays stream more given parsed x y =
+    let first = parsed_first x.0 Head stream given x.1 in
+    stays_in x.0 y.0 Head stream more given first.0 first.1 parsed first.2 y.1
 
 -- ---- bytes of a body that the caller has
 
@@ -76,10 +76,10 @@ part_fed old left next stream given segment is none fits reaches =
     (subst (λ (r : List ℕ). HasRead (stream ++ segment) given (record { part = []; rest = r ++ segment; awaited = old.awaited })) none fed) in
     let lent : HasRead (stream ++ segment) (given ++ map HasByte (take (length segment) segment)) (record { part = take (length segment) segment; rest = drop (length segment) segment; awaited = Body (left - length segment) next }) =
     lends (record { part = []; rest = segment; awaited = Body left next }) left next (length segment) refl (omega arith) fits (stream ++ segment) given here in
-    let said : HasRead (stream ++ segment) (given ++ map HasByte segment) (record { part = take (length segment) segment; rest = drop (length segment) segment; awaited = Body (left - length segment) next }) =
+    let parsed : HasRead (stream ++ segment) (given ++ map HasByte segment) (record { part = take (length segment) segment; rest = drop (length segment) segment; awaited = Body (left - length segment) next }) =
     subst (λ (p : List ℕ). HasRead (stream ++ segment) (given ++ map HasByte p) (record { part = take (length segment) segment; rest = drop (length segment) segment; awaited = Body (left - length segment) next })) (take_whole segment) lent in
     let ended : HasRead (stream ++ segment) (given ++ map HasByte segment) (record { part = take (length segment) segment; rest = []; awaited = Body (left - length segment) next }) =
-    subst (λ (r : List ℕ). HasRead (stream ++ segment) (given ++ map HasByte segment) (record { part = take (length segment) segment; rest = r; awaited = Body (left - length segment) next })) (drop_whole segment) said in
+    subst (λ (r : List ℕ). HasRead (stream ++ segment) (given ++ map HasByte segment) (record { part = take (length segment) segment; rest = r; awaited = Body (left - length segment) next })) (drop_whole segment) parsed in
     record { left = ended.left; leads = ended.leads; kept = ended.kept }
 
 has_read_fed : (old : HttpState) (awaited : Awaited) (stream : List ℕ) (given : List HttpElement) (segment : List ℕ) → old.awaited ≡ awaited → old.rest ≡ [] → HasLeft (length segment) awaited → HasRead stream given old → HasRead (stream ++ segment) (given ++ map HasByte segment) (record { part = []; rest = []; awaited = past_body (length segment) awaited })

@@ -25,32 +25,32 @@ parses_then (suc n) m a bytes first b mid later x y =
     let r = parses_then n m x.2 x.1 x.3 b mid later x.6 y in
     (suc r.0, (x.0, x.1, x.2, x.3 ++ later, x.4, ap (λ s. s ++ later) x.5 ∙ append_assoc x.0 x.3 later, r.1))
 
-leads_one : (a : Awaited) (bytes : List ℕ) (said : List HttpElement) (b : Awaited) (left : List ℕ) → PrefixIs a bytes (Goes said left b) → Leads a bytes said b left
-leads_one a bytes said b left prefix = (suc zero, (said, left, b, [], prefix, sym (append-nil said), (refl, refl, refl)))
+leads_one : (a : Awaited) (bytes : List ℕ) (parsed : List HttpElement) (b : Awaited) (left : List ℕ) → PrefixIs a bytes (Goes parsed left b) → Leads a bytes parsed b left
+leads_one a bytes parsed b left prefix = (suc zero, (parsed, left, b, [], prefix, sym (append-nil parsed), (refl, refl, refl)))
 
 -- a reader for which something counts goes on
-on_from : (stream : List ℕ) (given : List HttpElement) (old : HttpState) (left : List ℕ) (said : List HttpElement) (new : HttpState) → (IsOver old → ⊥) → Leads old.awaited old.rest said new.awaited new.rest → Leads Head stream given old.awaited left → (IsOver old ⊎ (left ≡ old.rest)) → HasRead stream (given ++ said) new
-on_from stream given old left said new counts on leads (inl over) = absurd (counts over)
-on_from stream given old left said new counts on leads (inr same) =
+on_from : (stream : List ℕ) (given : List HttpElement) (old : HttpState) (left : List ℕ) (parsed : List HttpElement) (new : HttpState) → (IsOver old → ⊥) → Leads old.awaited old.rest parsed new.awaited new.rest → Leads Head stream given old.awaited left → (IsOver old ⊎ (left ≡ old.rest)) → HasRead stream (given ++ parsed) new
+on_from stream given old left parsed new counts on leads (inl over) = absurd (counts over)
+on_from stream given old left parsed new counts on leads (inr same) =
     let here : LeadsIn leads.0 Head stream given old.awaited old.rest = subst (λ l. LeadsIn leads.0 Head stream given old.awaited l) same leads.1 in
-    record { left = new.rest; leads = leads_then leads.0 on.0 Head stream given old.awaited old.rest said new.awaited new.rest here on.1; kept = inr refl }
+    record { left = new.rest; leads = leads_then leads.0 on.0 Head stream given old.awaited old.rest parsed new.awaited new.rest here on.1; kept = inr refl }
 
-advance_by : (old : HttpState) (said : List HttpElement) (new : HttpState) → (IsOver old → ⊥) → Leads old.awaited old.rest said new.awaited new.rest → Advances old said new
-advance_by old said new counts on stream given reaches = on_from stream given old reaches.left said new counts on reaches.leads reaches.kept
+advance_by : (old : HttpState) (parsed : List HttpElement) (new : HttpState) → (IsOver old → ⊥) → Leads old.awaited old.rest parsed new.awaited new.rest → Advances old parsed new
+advance_by old parsed new counts on stream given reaches = on_from stream given old reaches.left parsed new counts on reaches.leads reaches.kept
 
-not_over : (old : HttpState) (said : List HttpElement) (rest : List ℕ) (next : Awaited) → PrefixIs old.awaited old.rest (Goes said rest next) → IsOver old → ⊥
-not_over old said rest next prefix over =
-    let no : Goes said rest next ≡ Waits = subst (λ (a : Awaited). PrefixIs a old.rest (Goes said rest next)) over prefix in
+not_over : (old : HttpState) (parsed : List HttpElement) (rest : List ℕ) (next : Awaited) → PrefixIs old.awaited old.rest (Goes parsed rest next) → IsOver old → ⊥
+not_over old parsed rest next prefix over =
+    let no : Goes parsed rest next ≡ Waits = subst (λ (a : Awaited). PrefixIs a old.rest (Goes parsed rest next)) over prefix in
     (cc)
 
-pub advance : (old : HttpState) (said : List HttpElement) (new : HttpState) → PrefixIs old.awaited old.rest (Goes said new.rest new.awaited) → Advances old said new
-advance old said new prefix = advance_by old said new (not_over old said new.rest new.awaited prefix) (leads_one old.awaited old.rest said new.awaited new.rest prefix)
+pub advance : (old : HttpState) (parsed : List HttpElement) (new : HttpState) → PrefixIs old.awaited old.rest (Goes parsed new.rest new.awaited) → Advances old parsed new
+advance old parsed new prefix = advance_by old parsed new (not_over old parsed new.rest new.awaited prefix) (leads_one old.awaited old.rest parsed new.awaited new.rest prefix)
 
 pub advances_nothing : (old : HttpState) → Advances old [] old
 advances_nothing old stream given reaches = subst (λ g. HasRead stream g old) (sym (append-nil given)) reaches
 
-pub advances_then : (old mid new : HttpState) (said : List HttpElement) → Advances old [] mid → Advances mid said new → Advances old said new
-advances_then old mid new said first second stream given reaches =
+pub advances_then : (old mid new : HttpState) (parsed : List HttpElement) → Advances old [] mid → Advances mid parsed new → Advances old parsed new
+advances_then old mid new parsed first second stream given reaches =
     second stream given (subst (λ g. HasRead stream g mid) (append-nil given) (first stream given reaches))
 
 -- the prefix is not known yet
@@ -63,7 +63,7 @@ pub tells_all : (old : HttpState) → PrefixIs old.awaited old.rest Waits → (s
 tells_all old waits stream given reaches =
     let here : PrefixIs old.awaited reaches.left Waits = waits_in old reaches.left waits reaches.kept in
     let parses : Parses Head stream (given ++ []) = parses_then reaches.leads.0 zero Head stream given old.awaited reaches.left [] reaches.leads.1 (refl, here) in
-    subst (λ said. Parses Head stream said) (append-nil given) parses
+    subst (λ parsed. Parses Head stream parsed) (append-nil given) parses
 
 -- a part of a body, byte by byte
 
@@ -84,14 +84,14 @@ body_counts old count next is over = let no : Body count next ≡ Nothing = sym 
 
 pub lends : (old : HttpState) (count : ℕ) (next : Following) (size : ℕ) → old.awaited ≡ Body count next → size ≤ length old.rest → size ≤ count → Advances old (map HasByte (take size old.rest)) (record { part = take size old.rest; rest = drop size old.rest; awaited = Body (count - size) next })
 lends old count next size is within fits =
-    let said = map HasByte (take size old.rest) in
+    let parsed = map HasByte (take size old.rest) in
     let left = drop size old.rest in
     let after = Body (count - size) next in
-    let on : Leads (Body (length (take size old.rest) + (count - size)) next) (take size old.rest ++ left) said after left = leads_part (take size old.rest) left (count - size) next in
+    let on : Leads (Body (length (take size old.rest) + (count - size)) next) (take size old.rest ++ left) parsed after left = leads_part (take size old.rest) left (count - size) next in
     let all : length (take size old.rest) + (count - size) ≡ count = rw (length-take-le size old.rest within) (omega (arith, fits)) in
-    let bytes : Leads (Body (length (take size old.rest) + (count - size)) next) old.rest said after left = subst (λ (b : List ℕ). Leads (Body (length (take size old.rest) + (count - size)) next) b said after left) (take-append-drop size old.rest) on in
-    let here : Leads (Body count next) old.rest said after left = subst (λ (n : ℕ). Leads (Body n next) old.rest said after left) all bytes in
-    advance_by old said (record { part = take size old.rest; rest = left; awaited = after }) (body_counts old count next is) (subst (λ (a : Awaited). Leads a old.rest said after left) (sym is) here)
+    let bytes : Leads (Body (length (take size old.rest) + (count - size)) next) old.rest parsed after left = subst (λ (b : List ℕ). Leads (Body (length (take size old.rest) + (count - size)) next) b parsed after left) (take-append-drop size old.rest) on in
+    let here : Leads (Body count next) old.rest parsed after left = subst (λ (n : ℕ). Leads (Body n next) old.rest parsed after left) all bytes in
+    advance_by old parsed (record { part = take size old.rest; rest = left; awaited = after }) (body_counts old count next is) (subst (λ (a : Awaited). Leads a old.rest parsed after left) (sym is) here)
 
 -- a byte was lent
 pub lends_less : (old : HttpState) (count : ℕ) (next : Following) (size : ℕ) → 0 < size → size ≤ length old.rest → work (record { part = take size old.rest; rest = drop size old.rest; awaited = Body (count - size) next }) < work old

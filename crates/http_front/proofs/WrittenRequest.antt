@@ -147,15 +147,15 @@ parses_end last more later it = parses_step (Body 0 (Close last)) more (EndsBody
 joined : (invites : Bool) (closes : Bool) (body : List ℕ) (later : List HttpElement)
     → HasHead closes ∷ ((if invites then Invites ∷ [] else []) ++ (map HasByte body ++ EndsBody ∷ later)) ≡ (HasHead closes ∷ ((if invites then Invites ∷ [] else []) ++ (map HasByte body ++ EndsBody ∷ []))) ++ later
 joined invites closes body later =
-    ap (λ (said : List HttpElement). HasHead closes ∷ said)
-    (ap (λ (said : List HttpElement). (if invites then Invites ∷ [] else []) ++ said) (sym (append_assoc (map HasByte body) (EndsBody ∷ []) later)) ∙ sym (append_assoc (if invites then Invites ∷ [] else []) (map HasByte body ++ EndsBody ∷ []) later))
+    ap (λ (parsed : List HttpElement). HasHead closes ∷ parsed)
+    (ap (λ (parsed : List HttpElement). (if invites then Invites ∷ [] else []) ++ parsed) (sym (append_assoc (map HasByte body) (EndsBody ∷ []) later)) ∙ sym (append_assoc (if invites then Invites ∷ [] else []) (map HasByte body ++ EndsBody ∷ []) later))
 
 pub length_parses : LengthParses
 length_parses head body more request later is framing it =
     let body_parses : Parses (body_by request.framing request.closes) (body ++ more) (map HasByte body ++ EndsBody ∷ later) =
     subst (λ (f : Framing). Parses (body_by f request.closes) (body ++ more) (map HasByte body ++ EndsBody ∷ later)) (sym framing)
     (parses_bytes body more (Close (is_last request.closes (length body))) (EndsBody ∷ later) (parses_end (is_last request.closes (length body)) more later it)) in
-    subst (λ (said : List HttpElement). Parses Head (head ++ (body ++ more)) said) (joined request.invites request.closes body later) (parses_head head (body ++ more) request (map HasByte body ++ EndsBody ∷ later) is body_parses)
+    subst (λ (parsed : List HttpElement). Parses Head (head ++ (body ++ more)) parsed) (joined request.invites request.closes body later) (parses_head head (body ++ more) request (map HasByte body ++ EndsBody ∷ later) is body_parses)
 
 -- ---- chunks
 
@@ -245,7 +245,7 @@ parses_chunks (chunk ∷ chunks) rest room closes later (line, some, fits, are) 
     let left : room - length (octets_of (chunk ∷ chunks)) ≡ room - length chunk.octets - length (octets_of chunks) = less room (length chunk.octets) (length (octets_of chunks)) (length (octets_of (chunk ∷ chunks))) (length-append chunk.octets (octets_of chunks)) in
     let more = parses_chunks chunks rest (room - length chunk.octets) closes later are (subst (λ (n : ℕ). Parses (Size n closes) rest later) left it) in
     subst (λ (bytes : List ℕ). Parses (Size room closes) bytes (map HasByte (octets_of (chunk ∷ chunks)) ++ later)) (sym (append_assoc (chunk_bytes chunk) (flat_map chunk_bytes chunks) rest ∙ chunk_joined chunk (flat_map chunk_bytes chunks ++ rest)))
-    (subst (λ (said : List HttpElement). Parses (Size room closes) (chunk.line ++ (chunk.octets ++ 13 ∷ 10 ∷ (flat_map chunk_bytes chunks ++ rest))) said) (both chunk.octets (octets_of chunks))
+    (subst (λ (parsed : List HttpElement). Parses (Size room closes) (chunk.line ++ (chunk.octets ++ 13 ∷ 10 ∷ (flat_map chunk_bytes chunks ++ rest))) parsed) (both chunk.octets (octets_of chunks))
     (parses_chunk chunk.line chunk.octets (flat_map chunk_bytes chunks ++ rest) room closes (map HasByte (octets_of chunks) ++ later) line some fits more))
   where
     less : (n m k all : ℕ) → all ≡ m + k → n - all ≡ n - m - k
@@ -253,7 +253,7 @@ parses_chunks (chunk ∷ chunks) rest room closes later (line, some, fits, are) 
 
     both : (xs ys : List ℕ) → map HasByte xs ++ (map HasByte ys ++ later) ≡ map HasByte (xs ++ ys) ++ later
     both [] ys = refl
-    both (x ∷ xs) ys = ap (λ (said : List HttpElement). HasByte x ∷ said) (both xs ys)
+    both (x ∷ xs) ys = ap (λ (parsed : List HttpElement). HasByte x ∷ parsed) (both xs ys)
 
 -- the last chunk, and the trailer
 parses_last : (last trailer more : List ℕ) (room : ℕ) (closes : Bool) (later : List HttpElement) → IsSizeLine last 0 → IsTrailer trailer → Parses (after_body (is_last closes (HTTP_BODY_BYTES - room))) more later → Parses (Size room closes) (last ++ (trailer ++ more)) (EndsBody ∷ later)
@@ -278,5 +278,5 @@ chunks_say head chunks last trailer more request later is framing are ends whole
     let body_parses : Parses (body_by request.framing request.closes) (flat_map chunk_bytes chunks ++ (last ++ (trailer ++ more))) (map HasByte (octets_of chunks) ++ EndsBody ∷ later) =
     subst (λ (f : Framing). Parses (body_by f request.closes) (flat_map chunk_bytes chunks ++ (last ++ (trailer ++ more))) (map HasByte (octets_of chunks) ++ EndsBody ∷ later)) (sym framing)
     (parses_chunks chunks (last ++ (trailer ++ more)) HTTP_BODY_BYTES request.closes (EndsBody ∷ later) are end) in
-    subst (λ (said : List HttpElement). Parses Head (head ++ (flat_map chunk_bytes chunks ++ (last ++ (trailer ++ more)))) said) (joined request.invites request.closes (octets_of chunks) later)
+    subst (λ (parsed : List HttpElement). Parses Head (head ++ (flat_map chunk_bytes chunks ++ (last ++ (trailer ++ more)))) parsed) (joined request.invites request.closes (octets_of chunks) later)
     (parses_head head (flat_map chunk_bytes chunks ++ (last ++ (trailer ++ more))) request (map HasByte (octets_of chunks) ++ EndsBody ∷ later) is body_parses)

@@ -10,7 +10,7 @@ pub data Place : Type 0 where
 
 abbrev pub is_none : List HttpElement → Bool
 is_none [] = true
-is_none (said ∷ later) = false
+is_none (parsed ∷ later) = false
 
 abbrev pub in_order : Place → List HttpElement → Bool
 in_order place [] = true
@@ -21,8 +21,8 @@ in_order (Headed closes) (EndsBody ∷ later) = if is_last closes 0 then is_none
 in_order (Within closes count) (HasByte byte ∷ later) = in_order (Within closes (count + 1)) later
 in_order (Within closes count) (EndsBody ∷ later) = if is_last closes count then is_none later else in_order Between later
 in_order place (IsRefused refusal ∷ later) = is_none later
-in_order place (said ∷ later) = false
+in_order place (parsed ∷ later) = false
 
 -- each stream contains its exchanges in this order
 abbrev pub ElementsInOrder : Type 0
-ElementsInOrder = (stream : List ℕ) (said : List HttpElement) → Exchanges stream said → in_order Between said ≡ true
+ElementsInOrder = (stream : List ℕ) (parsed : List HttpElement) → Exchanges stream parsed → in_order Between parsed ≡ true

@@ -43,7 +43,7 @@ elements_of (item.Refuse refusal) part = IsRefused refusal ∷ []
 
 -- a step at the beginning of the bytes: its elements, the bytes after it, and the part that is awaited next; or a wait for more bytes
 pub data Prefix : Type 0 where
-  Goes : (said : List HttpElement) (rest : List ℕ) (next : Awaited) → Prefix
+  Goes : (parsed : List HttpElement) (rest : List ℕ) (next : Awaited) → Prefix
   Waits : Prefix
 
 abbrev pub refused : HttpRejection → List ℕ → Prefix
@@ -153,49 +153,49 @@ PrefixIs Nothing bytes prefix = prefix ≡ Waits
 
 -- the bytes parse as these elements in `steps` steps, and then more bytes are awaited
 abbrev pub ParsesIn : ℕ → Awaited → List ℕ → List HttpElement → Type 0
-ParsesIn zero awaited bytes said = (said ≡ []) × PrefixIs awaited bytes Waits
-ParsesIn (suc steps) awaited bytes said =
+ParsesIn zero awaited bytes parsed = (parsed ≡ []) × PrefixIs awaited bytes Waits
+ParsesIn (suc steps) awaited bytes parsed =
     (first : List HttpElement) × (rest : List ℕ) × (next : Awaited) × (later : List HttpElement)
-    × PrefixIs awaited bytes (Goes first rest next) × (said ≡ first ++ later) × ParsesIn steps next rest later
+    × PrefixIs awaited bytes (Goes first rest next) × (parsed ≡ first ++ later) × ParsesIn steps next rest later
 
 abbrev pub Parses : Awaited → List ℕ → List HttpElement → Type 0
-Parses awaited bytes said = (steps : ℕ) × ParsesIn steps awaited bytes said
+Parses awaited bytes parsed = (steps : ℕ) × ParsesIn steps awaited bytes parsed
 
 -- the elements of a whole stream
 abbrev pub Exchanges : List ℕ → List HttpElement → Type 0
-Exchanges stream said = Parses Head stream said
+Exchanges stream parsed = Parses Head stream parsed
 
 -- two readings of one stream give the same elements
 abbrev pub OneParse : Type 0
-OneParse = (stream : List ℕ) (given said : List HttpElement) → Exchanges stream given → Exchanges stream said → given ≡ said
+OneParse = (stream : List ℕ) (given parsed : List HttpElement) → Exchanges stream given → Exchanges stream parsed → given ≡ parsed
 
 -- each stream has a reading
 abbrev pub SomeParse : Type 0
-SomeParse = (stream : List ℕ) → (said : List HttpElement) × Exchanges stream said
+SomeParse = (stream : List ℕ) → (parsed : List HttpElement) × Exchanges stream parsed
 
 -- the elements of a stream are a prefix of the elements of the stream with more bytes after it
 abbrev pub StaysInPrefix : Type 0
-StaysInPrefix = (stream more : List ℕ) (given said : List HttpElement) → Exchanges stream given → Exchanges (stream ++ more) said → (later : List HttpElement) × (said ≡ given ++ later)
+StaysInPrefix = (stream more : List ℕ) (given parsed : List HttpElement) → Exchanges stream given → Exchanges (stream ++ more) parsed → (later : List HttpElement) × (parsed ≡ given ++ later)
 
 -- the bytes parse as these elements in `steps` steps, and lead to this awaited part with these bytes left
 abbrev pub LeadsIn : ℕ → Awaited → List ℕ → List HttpElement → Awaited → List ℕ → Type 0
-LeadsIn zero awaited bytes said next left = (said ≡ []) × (next ≡ awaited) × (left ≡ bytes)
-LeadsIn (suc steps) awaited bytes said next left =
+LeadsIn zero awaited bytes parsed next left = (parsed ≡ []) × (next ≡ awaited) × (left ≡ bytes)
+LeadsIn (suc steps) awaited bytes parsed next left =
     (first : List HttpElement) × (rest : List ℕ) × (after : Awaited) × (later : List HttpElement)
-    × PrefixIs awaited bytes (Goes first rest after) × (said ≡ first ++ later) × LeadsIn steps after rest later next left
+    × PrefixIs awaited bytes (Goes first rest after) × (parsed ≡ first ++ later) × LeadsIn steps after rest later next left
 
 abbrev pub Leads : Awaited → List ℕ → List HttpElement → Awaited → List ℕ → Type 0
-Leads awaited bytes said next left = (steps : ℕ) × LeadsIn steps awaited bytes said next left
+Leads awaited bytes parsed next left = (steps : ℕ) × LeadsIn steps awaited bytes parsed next left
 
 -- these are the first elements of the stream, whatever bytes follow
-pub record ParsesFirst (stream : List ℕ) (said : List HttpElement) : Type 0 where
+pub record ParsesFirst (stream : List ℕ) (parsed : List HttpElement) : Type 0 where
   pub next : Awaited
   pub left : List ℕ
-  pub leads : Leads Head stream said next left
+  pub leads : Leads Head stream parsed next left
 
 -- the first elements of a stream are a prefix of the elements of the stream with more bytes after it
 abbrev pub FirstStays : Type 0
-FirstStays = (stream more : List ℕ) (first said : List HttpElement) → ParsesFirst stream first → Exchanges (stream ++ more) said → (later : List HttpElement) × (said ≡ first ++ later)
+FirstStays = (stream more : List ℕ) (first parsed : List HttpElement) → ParsesFirst stream first → Exchanges (stream ++ more) parsed → (later : List HttpElement) × (parsed ≡ first ++ later)
 
 -- two prefixes of the elements of a stream are equal if their lengths are equal
 abbrev pub FirstIsOne : Type 0
@@ -237,17 +237,17 @@ GivesThePrefix = (stream : List ℕ) (given : List HttpElement) (reader : HttpSt
 -- the elements of a whole stream are those that a reader has given, and then those that the reader's state parses from its bytes and the bytes that follow
 abbrev pub ParsesTheRest : Type 0
 ParsesTheRest =
-    (stream coming : List ℕ) (given said : List HttpElement) (reader : HttpState)
-    → HasRead stream given reader → Parses reader.awaited (reader.rest ++ coming) said → Exchanges (stream ++ coming) (given ++ said)
+    (stream coming : List ℕ) (given parsed : List HttpElement) (reader : HttpState)
+    → HasRead stream given reader → Parses reader.awaited (reader.rest ++ coming) parsed → Exchanges (stream ++ coming) (given ++ parsed)
 
 -- the reader went from one state to another and gave these elements of its stream
 abbrev pub Advances : HttpState → List HttpElement → HttpState → Type 0
-Advances old said new = (stream : List ℕ) (given : List HttpElement) → HasRead stream given old → HasRead stream (given ++ said) new
+Advances old parsed new = (stream : List ℕ) (given : List HttpElement) → HasRead stream given old → HasRead stream (given ++ parsed) new
 
 -- after a refusal the reader awaits nothing
 abbrev pub Stops : HttpItem → HttpState → Type 0
 Stops (item.Refuse refusal) new = IsOver new
-Stops said new = ⊤
+Stops parsed new = ⊤
 
 -- an upper bound on the items that can come without reading a byte
 abbrev pub rank : Awaited → ℕ
@@ -264,11 +264,11 @@ work reader = 4 * length reader.rest + rank reader.awaited
 
 -- the result of one step of the reader: a step without an item passes over bytes without an element, or waits and changes nothing
 abbrev pub Steps : HttpState → Step → HttpState → Type 0
-Steps old (step.Gives said) new = Advances old (elements_of said new.part) new × Stops said new × (work new < work old)
+Steps old (step.Gives parsed) new = Advances old (elements_of parsed new.part) new × Stops parsed new × (work new < work old)
 Steps old step.Passes new = Advances old [] new × (length new.rest < length old.rest)
 Steps old step.Waits new = (new ≡ old) × PrefixIs old.awaited old.rest Waits
 
 -- the answer of a reader, and its state then: the next item of the stream; or no item, and then the stream contains no more
 abbrev pub Answers : HttpState → Option HttpItem → HttpState → Type 0
-Answers old (Some said) new = Advances old (elements_of said new.part) new × Stops said new
+Answers old (Some parsed) new = Advances old (elements_of parsed new.part) new × Stops parsed new
 Answers old None new = Advances old [] new × ((stream : List ℕ) (given : List HttpElement) → HasRead stream given old → Exchanges stream given)

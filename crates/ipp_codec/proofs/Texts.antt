@@ -36,6 +36,6 @@ holds_none tag bytes t none text (inl (inl h, is)) = omega (arith, t, h)
 holds_none tag bytes t none text (inl (inr h, is)) = omega (arith, t, h)
 holds_none tag bytes t none text (inr has) = none text has.1
 
-pub no_text_said : (v : ValueView) → 0x34 < v.tag → v.tag < 0x41 → ((text : List ℕ) → ¬ (HasText v.content.now text)) → (text : List ℕ) → ¬ (HoldsText (value_shown v) text)
-no_text_said v low high none text holds =
+pub no_text_shown : (v : ValueView) → 0x34 < v.tag → v.tag < 0x41 → ((text : List ℕ) → ¬ (HasText v.content.now text)) → (text : List ℕ) → ¬ (HoldsText (value_shown v) text)
+no_text_shown v low high none text holds =
     holds_none v.tag v.content.now high none text (subst (λ (w : IppValue). HoldsText w text) (plain_shown v (λ h. omega (arith, h, low))) holds)

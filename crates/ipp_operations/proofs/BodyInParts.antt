@@ -169,11 +169,11 @@ read_nothing decoder document reaches none = record { reaches = reaches; kept = 
 -- ---- from a decoder to the request
 
 -- the header is there
-pub asks_under : (decoder : DecoderState) (document : List ℕ) (header : Header) (said : ParsedRequest) → header_of decoder.head ≡ Some header → AsksUnderOf header decoder document said → AsksOf decoder document said
-asks_under decoder document header said is under bytes reaches holds =
+pub asks_under : (decoder : DecoderState) (document : List ℕ) (header : Header) (parsed : ParsedRequest) → header_of decoder.head ≡ Some header → AsksUnderOf header decoder document parsed → AsksOf decoder document parsed
+asks_under decoder document header parsed is under bytes reaches holds =
     let all : header_of bytes ≡ Some header = sym (header_kept bytes decoder reaches) ∙ is in
     let reads : reads_document decoder.head ≡ sends_document (operation_of header) = ap (λ (o : Option Header). option_map_or (λ (h : Header). sends_document (operation_of h)) o false) is in
-    subst (λ (o : Option Header). MatchOption o (said ≡ TooShort) (λ (h : Header). AsksUnder h bytes said)) (sym all) (under bytes reaches (λ so. holds (reads ∙ so)))
+    subst (λ (o : Option Header). MatchOption o (parsed ≡ TooShort) (λ (h : Header). AsksUnder h bytes parsed)) (sym all) (under bytes reaches (λ so. holds (reads ∙ so)))
 
 -- the header isn't whole
 pub asks_short : (decoder : DecoderState) (document : List ℕ) → header_of decoder.head ≡ None → AsksOf decoder document TooShort
@@ -181,16 +181,16 @@ asks_short decoder document is bytes reaches holds =
     subst (λ (o : Option Header). MatchOption o (TooShort ≡ TooShort) (λ (h : Header). AsksUnder h bytes TooShort)) (sym (sym (header_kept bytes decoder reaches) ∙ is)) refl
 
 -- the header gives an operation
-pub asks_by : (decoder : DecoderState) (document : List ℕ) (header : Header) (asked : Operation) (said : ParsedRequest) → operation_of header ≡ Ok asked → AsksByOf asked header.request_id decoder document said → AsksUnderOf header decoder document said
-asks_by decoder document header asked said is by bytes reaches holds =
-    subst (λ (r : Result Operation Status). MatchResult r (λ (o : Operation). AsksBy o header.request_id bytes said) (λ (s : Status). said ≡ Refused s header.request_id)) (sym is)
+pub asks_by : (decoder : DecoderState) (document : List ℕ) (header : Header) (asked : Operation) (parsed : ParsedRequest) → operation_of header ≡ Ok asked → AsksByOf asked header.request_id decoder document parsed → AsksUnderOf header decoder document parsed
+asks_by decoder document header asked parsed is by bytes reaches holds =
+    subst (λ (r : Result Operation Status). MatchResult r (λ (o : Operation). AsksBy o header.request_id bytes parsed) (λ (s : Status). parsed ≡ Refused s header.request_id)) (sym is)
     (by bytes reaches (λ so. holds (ap sends_document is ∙ so)))
 
 -- the header gives a status instead of an operation
 pub asks_none : (decoder : DecoderState) (document : List ℕ) (header : Header) (status : Status) → operation_of header ≡ Err status → AsksUnderOf header decoder document (Refused status header.request_id)
 asks_none decoder document header status is bytes reaches holds =
-    let said = Refused status header.request_id in
-    subst (λ (r : Result Operation Status). MatchResult r (λ (o : Operation). AsksBy o header.request_id bytes said) (λ (s : Status). said ≡ Refused s header.request_id)) (sym is) refl
+    let parsed = Refused status header.request_id in
+    subst (λ (r : Result Operation Status). MatchResult r (λ (o : Operation). AsksBy o header.request_id bytes parsed) (λ (s : Status). parsed ≡ Refused s header.request_id)) (sym is) refl
 
 pub asks_event : (decoder : DecoderState) (document : List ℕ) (asked : Operation) (id : ℕ) (event : Result Event Status) → RequestsOf asked decoder document event → AsksByOf asked id decoder document (answered id event)
 asks_event decoder document asked id event requests bytes reaches holds = (event, requests bytes reaches holds, refl)

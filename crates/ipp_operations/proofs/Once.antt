@@ -80,11 +80,11 @@ no_message laws bytes f n m h le s =
 spelt : (bytes : List ℕ) (n : ℕ) (m : IppMessage) → Spells (take n bytes) m → spelling m ++ drop n bytes ≡ bytes
 spelt bytes n m s = ap (λ xs. xs ++ drop n bytes) (sym s.1) ∙ take-append-drop n bytes
 
-same_request : Laws → (asked : Operation) (body : List ℕ) (given said : Result Event Status) → Requests asked body given → Requests asked body said → given ≡ said
-same_request laws asked body given said (inl a) (inl b) = a.2 ∙ ap (λ f. Err (status_of f)) (same_fault laws body a.0 b.0 a.1 b.1) ∙ sym b.2
-same_request laws asked body given said (inl a) (inr b) = absurd (no_message laws body a.0 b.0 b.1 a.1 b.2 b.3)
-same_request laws asked body given said (inr a) (inl b) = absurd (no_message laws body b.0 a.0 a.1 b.1 a.2 a.3)
-same_request laws asked body given said (inr a) (inr b) =
+same_request : Laws → (asked : Operation) (body : List ℕ) (given parsed : Result Event Status) → Requests asked body given → Requests asked body parsed → given ≡ parsed
+same_request laws asked body given parsed (inl a) (inl b) = a.2 ∙ ap (λ f. Err (status_of f)) (same_fault laws body a.0 b.0 a.1 b.1) ∙ sym b.2
+same_request laws asked body given parsed (inl a) (inr b) = absurd (no_message laws body a.0 b.0 b.1 a.1 b.2 b.3)
+same_request laws asked body given parsed (inr a) (inl b) = absurd (no_message laws body b.0 a.0 a.1 b.1 a.2 a.3)
+same_request laws asked body given parsed (inr a) (inr b) =
     let same = laws.one_spelling a.1 b.1 (drop a.0 body) (drop b.0 body) a.3.0 b.3.0 (spelt body a.0 a.1 a.3 ∙ sym (spelt body b.0 b.1 b.3)) in
     a.4 ∙ ap (λ m. event_of asked m (drop a.0 body)) same.0 ∙ ap (λ d. event_of asked b.1 d) same.1 ∙ sym b.4
 
@@ -92,16 +92,16 @@ abbrev Under : Result Operation Status → ℕ → List ℕ → ParsedRequest �
 Under operation id body asked =
     MatchResult operation (λ o. AsksBy o id body asked) (λ status. asked ≡ Refused status id)
 
-same_under : Laws → (operation : Result Operation Status) (id : ℕ) (body : List ℕ) (given said : ParsedRequest) → Under operation id body given → Under operation id body said → given ≡ said
-same_under laws (Ok o) id body given said a b = a.2 ∙ ap (λ r. answered id r) (same_request laws o body a.0 b.0 a.1 b.1) ∙ sym b.2
-same_under laws (Err status) id body given said a b = a ∙ sym b
+same_under : Laws → (operation : Result Operation Status) (id : ℕ) (body : List ℕ) (given parsed : ParsedRequest) → Under operation id body given → Under operation id body parsed → given ≡ parsed
+same_under laws (Ok o) id body given parsed a b = a.2 ∙ ap (λ r. answered id r) (same_request laws o body a.0 b.0 a.1 b.1) ∙ sym b.2
+same_under laws (Err status) id body given parsed a b = a ∙ sym b
 
 abbrev At : Option Header → List ℕ → ParsedRequest → Type 0
 At header body asked = MatchOption header (asked ≡ TooShort) (λ h. AsksUnder h body asked)
 
-same_at : Laws → (header : Option Header) (body : List ℕ) (given said : ParsedRequest) → At header body given → At header body said → given ≡ said
-same_at laws None body given said a b = a ∙ sym b
-same_at laws (Some h) body given said a b = same_under laws (operation_of h) h.request_id body given said a b
+same_at : Laws → (header : Option Header) (body : List ℕ) (given parsed : ParsedRequest) → At header body given → At header body parsed → given ≡ parsed
+same_at laws None body given parsed a b = a ∙ sym b
+same_at laws (Some h) body given parsed a b = same_under laws (operation_of h) h.request_id body given parsed a b
 
-pub same_asked : Laws → (body : List ℕ) (given said : ParsedRequest) → Asks body given → Asks body said → given ≡ said
-same_asked laws body given said a b = same_at laws (header_of body) body given said a b
+pub same_asked : Laws → (body : List ℕ) (given parsed : ParsedRequest) → Asks body given → Asks body parsed → given ≡ parsed
+same_asked laws body given parsed a b = same_at laws (header_of body) body given parsed a b

@@ -55,10 +55,10 @@ abbrev pub RequestsOf : Operation → DecoderState → List ℕ → Result Event
 RequestsOf asked decoder document event = (bytes : List ℕ) → HasDecoded bytes decoder → Holds (has_document asked) bytes decoder document → Requests asked bytes event
 
 abbrev pub AsksByOf : Operation → ℕ → DecoderState → List ℕ → ParsedRequest → Type 0
-AsksByOf asked id decoder document said = (bytes : List ℕ) → HasDecoded bytes decoder → Holds (has_document asked) bytes decoder document → AsksBy asked id bytes said
+AsksByOf asked id decoder document parsed = (bytes : List ℕ) → HasDecoded bytes decoder → Holds (has_document asked) bytes decoder document → AsksBy asked id bytes parsed
 
 abbrev pub AsksUnderOf : Header → DecoderState → List ℕ → ParsedRequest → Type 0
-AsksUnderOf header decoder document said = (bytes : List ℕ) → HasDecoded bytes decoder → Holds (sends_document (operation_of header)) bytes decoder document → AsksUnder header bytes said
+AsksUnderOf header decoder document parsed = (bytes : List ℕ) → HasDecoded bytes decoder → Holds (sends_document (operation_of header)) bytes decoder document → AsksUnder header bytes parsed
 
 abbrev pub AsksOf : DecoderState → List ℕ → ParsedRequest → Type 0
-AsksOf decoder document said = (bytes : List ℕ) → HasDecoded bytes decoder → Holds (reads_document decoder.head) bytes decoder document → Asks bytes said
+AsksOf decoder document parsed = (bytes : List ℕ) → HasDecoded bytes decoder → Holds (reads_document decoder.head) bytes decoder document → Asks bytes parsed

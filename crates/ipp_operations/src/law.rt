@@ -7,7 +7,7 @@ use ipp_codec::{one_first_fault, one_spelling};
 
 /// Two parsed requests of one body are equal.
 pub fn one_asked()
-    ensures { (body : List ℕ) (given said : ParsedRequest) → Asks body given → Asks body said → given ≡ said }
+    ensures { (body : List ℕ) (given parsed : ParsedRequest) → Asks body given → Asks body parsed → given ≡ parsed }
 {
     one_spelling();
     one_first_fault();

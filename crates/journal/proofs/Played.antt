@@ -21,7 +21,7 @@ filed_after moment hs text turn [] file none = (text, [], turn, ap (λ (t : List
 filed_after moment hs text turn (Turned at those ∷ trace) file (first, rest, is_text, is, later) =
     (first, rest ++ text, is_text, ap (λ (t : List ℕ). t ++ text) is ∙ append_assoc first rest text, filed_after moment hs text turn trace rest later)
 filed_after moment hs text turn (Served_body at body answer those ∷ trace) file never = absurd never
-filed_after moment hs text turn (Reported at device said those ∷ trace) file never = absurd never
+filed_after moment hs text turn (Reported at device written those ∷ trace) file never = absurd never
 filed_after moment hs text turn (Ticked at those ∷ trace) file never = absurd never
 
 -- ---- the end of a turn
@@ -53,8 +53,8 @@ parts_stored before lines comments restart line feed =
 pub extends_turn : (moment : ℕ) (line : List ℕ) (a b d : Resumption) → turn_line moment ≡ line ++ codes "\n" → TakesTurn moment a b → b.wire.notes.lines ≡ Some b.lines.items → are_comments b.comments.items ≡ true → StartsTurn line b d → Extends (turn_line moment) a d
 extends_turn moment line a b d ends turn lines comments starts opening file resumed =
     let noted = turn.turns.noted resumed.noted in
-    let said : List ℕ = a.lines.items ++ a.comments.items in
-    let text : List ℕ = said ++ (restart_line a.restarted ++ turn_line moment) in
+    let written : List ℕ = a.lines.items ++ a.comments.items in
+    let text : List ℕ = written ++ (restart_line a.restarted ++ turn_line moment) in
     let is_text : IsTurnText moment (calls_in turn.turns.happenings) text = record {
       lines = a.lines.items;
       comments = a.comments.items;
@@ -73,13 +73,13 @@ extends_turn moment line a b d ends turn lines comments starts opening file resu
     let stored : d.stored.lines ≡ a.stored.lines ++ text =
     starts.stored ∙ (ap stored_of turn.same
     ∙ (parts_stored a.stored.lines a.lines.items a.comments.items (restart_line a.restarted) line (codes "\n")
-    ∙ ap (λ (t : List ℕ). a.stored.lines ++ (said ++ (restart_line a.restarted ++ t))) (sym ends))) in
+    ∙ ap (λ (t : List ℕ). a.stored.lines ++ (written ++ (restart_line a.restarted ++ t))) (sym ends))) in
     record {
       played = subst (λ (t : List ℕ). HasPlayed opening t d.engine) (sym stored) (subst (λ (e : EngineState). HasPlayed opening (a.stored.lines ++ text) e) (sym starts.engine) played);
       is =
           ap (λ (t : List ℕ). t ++ turn_line moment) resumed.is
           ∙ (append_assoc a.stored.lines (pending a) (turn_line moment)
-          ∙ (ap (λ (t : List ℕ). a.stored.lines ++ t) (append_assoc said (restart_line a.restarted) (turn_line moment))
+          ∙ (ap (λ (t : List ℕ). a.stored.lines ++ t) (append_assoc written (restart_line a.restarted) (turn_line moment))
           ∙ (sym stored ∙ (sym (append-nil d.stored.lines) ∙ ap (λ (t : List ℕ). d.stored.lines ++ t) (sym starts.none)))));
       noted = starts.notes ∙ no_notes b.wire.notes b.lines.items lines noted.0;
     }

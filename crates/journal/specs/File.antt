@@ -32,7 +32,7 @@ abbrev pub IsFile : Trace → List ℕ → Type 0
 IsFile [] file = file ≡ []
 IsFile (Turned moment hs ∷ trace) file = (text : List ℕ) × (rest : List ℕ) × IsTurnText moment (calls_in hs) text × (file ≡ text ++ rest) × IsFile trace rest
 IsFile (Served_body moment body answer hs ∷ trace) file = ⊥
-IsFile (Reported moment device said hs ∷ trace) file = ⊥
+IsFile (Reported moment device reported hs ∷ trace) file = ⊥
 IsFile (Ticked moment hs ∷ trace) file = ⊥
 
 -- the engine is at a trace that began with this core, and the trace has this file

@@ -73,21 +73,21 @@ waits_left : (awaited : Awaited) (rest left : List ℕ) → IsLeft None awaited 
 waits_left awaited rest left (inl over) is = ap (λ (a : Awaited). prefix_of a left) over
 waits_left awaited rest left (inr same) is = ap (λ (l : List ℕ). prefix_of awaited l) same ∙ is
 
-gives_some : (said : ItemRecord) (rest : List ℕ) → Gives said rest ≡ Waits → ⊥
-gives_some said rest is = (cc)
+gives_some : (parsed : ItemRecord) (rest : List ℕ) → Gives parsed rest ≡ Waits → ⊥
+gives_some parsed rest is = (cc)
 
 fails_some : (fault : LpdFault) → Fails fault ≡ Waits → ⊥
 fails_some fault is = (cc)
 
 -- the answer for an item at the beginning
-answers_item : (old : LpdState) (said : LpdItem) (file rest : List ℕ) → old.fault ≡ None → prefix_of old.awaited old.rest ≡ Gives (item_record said file) rest → Answers old (Ok (Some said)) (record { file = file; rest = rest; awaited = awaited_after (item_record said file); fault = None })
-answers_item old said file rest faultless gives stream given reaches =
-    let parsed = item_record said file in
+answers_item : (old : LpdState) (parsed : LpdItem) (file rest : List ℕ) → old.fault ≡ None → prefix_of old.awaited old.rest ≡ Gives (item_record parsed file) rest → Answers old (Ok (Some parsed)) (record { file = file; rest = rest; awaited = awaited_after (item_record parsed file); fault = None })
+answers_item old parsed file rest faultless gives stream given reaches =
+    let element = item_record parsed file in
     let kept : IsLeft None old.awaited old.rest reaches.left = subst (λ (f : Option LpdFault). IsLeft f old.awaited old.rest reaches.left) faultless reaches.kept in
-    let same : reaches.left ≡ old.rest = at_prefix old.awaited old.rest reaches.left (Gives parsed rest) kept gives (gives_some parsed rest) in
+    let same : reaches.left ≡ old.rest = at_prefix old.awaited old.rest reaches.left (Gives element rest) kept gives (gives_some element rest) in
     let here : Leads Command stream given old.awaited old.rest = subst (λ (l : List ℕ). Leads Command stream given old.awaited l) same reaches.leads in
-    let on : Leads old.awaited old.rest (parsed ∷ []) (awaited_after parsed) rest = (rest, gives, (refl, refl)) in
-    record { left = rest; leads = leads_then Command stream given old.awaited old.rest (parsed ∷ []) (awaited_after parsed) rest here on; kept = inr refl }
+    let on : Leads old.awaited old.rest (element ∷ []) (awaited_after element) rest = (rest, gives, (refl, refl)) in
+    record { left = rest; leads = leads_then Command stream given old.awaited old.rest (element ∷ []) (awaited_after element) rest here on; kept = inr refl }
 
 -- the answer for a fault at the beginning
 fault_reaches : (old : LpdState) (fault : LpdFault) → ((left : List ℕ) → IsLeft old.fault old.awaited old.rest left → prefix_of old.awaited left ≡ Fails fault) → Answers old (Err (Fault fault)) (record old { fault = Some fault })
@@ -129,9 +129,9 @@ answers_over old faultless over = answers_nothing old faultless (ap (λ (a : Awa
 
 -- ---- lines
 
-pub answers_line : (old : LpdState) (count : ℕ) (said : LpdItem) → old.fault ≡ None → awaits_line old.awaited ≡ true → first_line_of LPD_LINE_BYTES old.rest ≡ line.Whole count → meaning_of old.awaited (take count old.rest) ≡ Ok (item_record said []) → Answers old (Ok (Some said)) (record { file = []; rest = drop (count + 1) old.rest; awaited = awaited_after (item_record said []); fault = None })
-answers_line old count said faultless is whole parses =
-    answers_item old said [] (drop (count + 1) old.rest) faultless (rw (prefix_by_line old.awaited old.rest is, whole, parses) refl)
+pub answers_line : (old : LpdState) (count : ℕ) (parsed : LpdItem) → old.fault ≡ None → awaits_line old.awaited ≡ true → first_line_of LPD_LINE_BYTES old.rest ≡ line.Whole count → meaning_of old.awaited (take count old.rest) ≡ Ok (item_record parsed []) → Answers old (Ok (Some parsed)) (record { file = []; rest = drop (count + 1) old.rest; awaited = awaited_after (item_record parsed []); fault = None })
+answers_line old count parsed faultless is whole parses =
+    answers_item old parsed [] (drop (count + 1) old.rest) faultless (rw (prefix_by_line old.awaited old.rest is, whole, parses) refl)
 
 pub answers_bad_line : (old : LpdState) (count : ℕ) (fault : LpdFault) → old.fault ≡ None → awaits_line old.awaited ≡ true → first_line_of LPD_LINE_BYTES old.rest ≡ line.Whole count → meaning_of old.awaited (take count old.rest) ≡ Err fault → Answers old (Err (Fault fault)) (record old { fault = Some fault })
 answers_bad_line old count fault faultless is whole parses = answers_fault old fault faultless (rw (prefix_by_line old.awaited old.rest is, whole, parses) refl)
@@ -184,7 +184,7 @@ first_stays stream more first items ending x y = stays_in Command stream more fi
 nothing_read : (bytes other : List ℕ) (items : List ItemRecord) (ending : Ending) → Parses Nothing bytes items ending → Parses Nothing other items ending
 nothing_read bytes other [] Open x = refl
 nothing_read bytes other [] (Faulty fault) x = absurd (let no : Waits ≡ Fails fault = x in (cc))
-nothing_read bytes other (said ∷ items) ending x = absurd (let no : Waits ≡ Gives said x.0 = x.1 in (cc))
+nothing_read bytes other (parsed ∷ items) ending x = absurd (let no : Waits ≡ Gives parsed x.0 = x.1 in (cc))
 
 reads_left : (fault : Option LpdFault) (awaited : Awaited) (rest left coming : List ℕ) (items : List ItemRecord) (ending : Ending) → IsLeft fault awaited rest left → ParsesOn fault awaited (rest ++ coming) items ending → Parses awaited (left ++ coming) items ending
 reads_left (Some fault) awaited rest left coming items ending kept reads =

@@ -26,12 +26,12 @@ line_within bytes count whole =
 
 -- a prefix with more after it
 abbrev grow : List ℕ → Prefix → Prefix
-grow more (Gives said rest) = Gives said (rest ++ more)
+grow more (Gives parsed rest) = Gives parsed (rest ++ more)
 grow more (Fails fault) = Fails fault
 grow more Waits = Waits
 
-parses_grow : (said : Result ItemRecord LpdFault) (rest more : List ℕ) → line_parses said (rest ++ more) ≡ grow more (line_parses said rest)
-parses_grow (Ok said) rest more = refl
+parses_grow : (parsed : Result ItemRecord LpdFault) (rest more : List ℕ) → line_parses parsed (rest ++ more) ≡ grow more (line_parses parsed rest)
+parses_grow (Ok parsed) rest more = refl
 parses_grow (Err fault) rest more = refl
 
 line_grows : (meaning : List ℕ → Result ItemRecord LpdFault) (bytes more : List ℕ) (prefix : FirstLine) → first_line_of LPD_LINE_BYTES bytes ≡ prefix
@@ -46,9 +46,9 @@ line_grows meaning bytes more (line.Whole count) is =
 line_grows meaning bytes more line.TooLong is = inr (rw (too_long_grown LPD_LINE_BYTES bytes more is) refl)
 line_grows meaning bytes more line.Unfinished is = inl refl
 
-if_grow : (t : Bool) (said : ItemRecord) (rest more : List ℕ) (fault : LpdFault) → (if t then Gives said (rest ++ more) else Fails fault) ≡ grow more (if t then Gives said rest else Fails fault)
-if_grow true said rest more fault = refl
-if_grow false said rest more fault = refl
+if_grow : (t : Bool) (parsed : ItemRecord) (rest more : List ℕ) (fault : LpdFault) → (if t then Gives parsed (rest ++ more) else Fails fault) ≡ grow more (if t then Gives parsed rest else Fails fault)
+if_grow true parsed rest more fault = refl
+if_grow false parsed rest more fault = refl
 
 file_is : (count : ℕ) (bytes : List ℕ) → count < length bytes → by_file count bytes ≡ (if slice_index_or bytes count 0 == 0 then Gives (HasFile (take count bytes)) (drop (count + 1) bytes) else Fails MissingZero)
 file_is count bytes within =
@@ -79,81 +79,81 @@ grows Subcommand bytes more = line_grows subcommand_line bytes more (first_line_
 grows (File count) bytes more = file_by count bytes more (nat_le (length bytes) count) refl
 grows Nothing bytes more = inl refl
 
-gives_by : (prefix grown : Prefix) (more : List ℕ) (said : ItemRecord) (rest : List ℕ) → (prefix ≡ Waits) ⊎ (grown ≡ grow more prefix) → prefix ≡ Gives said rest → grown ≡ Gives said (rest ++ more)
-gives_by prefix grown more said rest (inl waits) is = absurd (let no : Waits ≡ Gives said rest = sym waits ∙ is in (cc))
-gives_by prefix grown more said rest (inr grows) is = grows ∙ ap (λ prefix. grow more prefix) is
+gives_by : (prefix grown : Prefix) (more : List ℕ) (parsed : ItemRecord) (rest : List ℕ) → (prefix ≡ Waits) ⊎ (grown ≡ grow more prefix) → prefix ≡ Gives parsed rest → grown ≡ Gives parsed (rest ++ more)
+gives_by prefix grown more parsed rest (inl waits) is = absurd (let no : Waits ≡ Gives parsed rest = sym waits ∙ is in (cc))
+gives_by prefix grown more parsed rest (inr grows) is = grows ∙ ap (λ prefix. grow more prefix) is
 
 fails_by : (prefix grown : Prefix) (more : List ℕ) (fault : LpdFault) → (prefix ≡ Waits) ⊎ (grown ≡ grow more prefix) → prefix ≡ Fails fault → grown ≡ Fails fault
 fails_by prefix grown more fault (inl waits) is = absurd (let no : Waits ≡ Fails fault = sym waits ∙ is in (cc))
 fails_by prefix grown more fault (inr grows) is = grows ∙ ap (λ prefix. grow more prefix) is
 
-gives_more : (awaited : Awaited) (bytes more : List ℕ) (said : ItemRecord) (rest : List ℕ) → prefix_of awaited bytes ≡ Gives said rest → prefix_of awaited (bytes ++ more) ≡ Gives said (rest ++ more)
-gives_more awaited bytes more said rest is = gives_by (prefix_of awaited bytes) (prefix_of awaited (bytes ++ more)) more said rest (grows awaited bytes more) is
+gives_more : (awaited : Awaited) (bytes more : List ℕ) (parsed : ItemRecord) (rest : List ℕ) → prefix_of awaited bytes ≡ Gives parsed rest → prefix_of awaited (bytes ++ more) ≡ Gives parsed (rest ++ more)
+gives_more awaited bytes more parsed rest is = gives_by (prefix_of awaited bytes) (prefix_of awaited (bytes ++ more)) more parsed rest (grows awaited bytes more) is
 
 pub fails_more : (awaited : Awaited) (bytes more : List ℕ) (fault : LpdFault) → prefix_of awaited bytes ≡ Fails fault → prefix_of awaited (bytes ++ more) ≡ Fails fault
 fails_more awaited bytes more fault is = fails_by (prefix_of awaited bytes) (prefix_of awaited (bytes ++ more)) more fault (grows awaited bytes more) is
 
 -- ---- an item takes a byte at least
 
-gives_rest : (said parsed : ItemRecord) (rest left : List ℕ) → Gives said rest ≡ Gives parsed left → (said ≡ parsed) × (rest ≡ left)
-gives_rest said parsed rest left same = ((cc), (cc))
+gives_rest : (parsed reparsed : ItemRecord) (rest left : List ℕ) → Gives parsed rest ≡ Gives reparsed left → (parsed ≡ reparsed) × (rest ≡ left)
+gives_rest parsed reparsed rest left same = ((cc), (cc))
 
-parses_rest : (meant : Result ItemRecord LpdFault) (left : List ℕ) (said : ItemRecord) (rest : List ℕ) → line_parses meant left ≡ Gives said rest → left ≡ rest
-parses_rest (Ok parsed) left said rest is = (gives_rest parsed said left rest is).1
-parses_rest (Err fault) left said rest is = absurd (let no : Fails fault ≡ Gives said rest = is in (cc))
+parses_rest : (meant : Result ItemRecord LpdFault) (left : List ℕ) (parsed : ItemRecord) (rest : List ℕ) → line_parses meant left ≡ Gives parsed rest → left ≡ rest
+parses_rest (Ok reparsed) left parsed rest is = (gives_rest reparsed parsed left rest is).1
+parses_rest (Err fault) left parsed rest is = absurd (let no : Fails fault ≡ Gives parsed rest = is in (cc))
 
 shorter : (bytes rest : List ℕ) (count : ℕ) → count < length bytes → drop (count + 1) bytes ≡ rest → length rest < length bytes
 shorter bytes rest count within is = rw (sym is) (omega (arith, within, length-drop (count + 1) bytes))
 
-line_shorter : (meaning : List ℕ → Result ItemRecord LpdFault) (bytes : List ℕ) (prefix : FirstLine) (said : ItemRecord) (rest : List ℕ) → first_line_of LPD_LINE_BYTES bytes ≡ prefix → by_line meaning bytes prefix ≡ Gives said rest → length rest < length bytes
-line_shorter meaning bytes (line.Whole count) said rest line is =
-    shorter bytes rest count (line_within bytes count line) (parses_rest (meaning (take count bytes)) (drop (count + 1) bytes) said rest is)
-line_shorter meaning bytes line.TooLong said rest line is = absurd (cc is)
-line_shorter meaning bytes line.Unfinished said rest line is = absurd (cc is)
+line_shorter : (meaning : List ℕ → Result ItemRecord LpdFault) (bytes : List ℕ) (prefix : FirstLine) (parsed : ItemRecord) (rest : List ℕ) → first_line_of LPD_LINE_BYTES bytes ≡ prefix → by_line meaning bytes prefix ≡ Gives parsed rest → length rest < length bytes
+line_shorter meaning bytes (line.Whole count) parsed rest line is =
+    shorter bytes rest count (line_within bytes count line) (parses_rest (meaning (take count bytes)) (drop (count + 1) bytes) parsed rest is)
+line_shorter meaning bytes line.TooLong parsed rest line is = absurd (cc is)
+line_shorter meaning bytes line.Unfinished parsed rest line is = absurd (cc is)
 
-if_rest : (t : Bool) (parsed said : ItemRecord) (left rest : List ℕ) (fault : LpdFault) → (if t then Gives parsed left else Fails fault) ≡ Gives said rest → left ≡ rest
-if_rest true parsed said left rest fault is = (gives_rest parsed said left rest is).1
-if_rest false parsed said left rest fault is = absurd (let no : Fails fault ≡ Gives said rest = is in (cc))
+if_rest : (t : Bool) (reparsed parsed : ItemRecord) (left rest : List ℕ) (fault : LpdFault) → (if t then Gives reparsed left else Fails fault) ≡ Gives parsed rest → left ≡ rest
+if_rest true reparsed parsed left rest fault is = (gives_rest reparsed parsed left rest is).1
+if_rest false reparsed parsed left rest fault is = absurd (let no : Fails fault ≡ Gives parsed rest = is in (cc))
 
-file_shorter : (count : ℕ) (bytes : List ℕ) (said : ItemRecord) (rest : List ℕ) (short : Bool) → nat_le (length bytes) count ≡ short → by_file count bytes ≡ Gives said rest → length rest < length bytes
-file_shorter count bytes said rest true test is =
-    let no : Waits ≡ Gives said rest = sym (file_waits count bytes (grind (arith, test))) ∙ is in
+file_shorter : (count : ℕ) (bytes : List ℕ) (parsed : ItemRecord) (rest : List ℕ) (short : Bool) → nat_le (length bytes) count ≡ short → by_file count bytes ≡ Gives parsed rest → length rest < length bytes
+file_shorter count bytes parsed rest true test is =
+    let no : Waits ≡ Gives parsed rest = sym (file_waits count bytes (grind (arith, test))) ∙ is in
     absurd (cc no)
-file_shorter count bytes said rest false test is =
+file_shorter count bytes parsed rest false test is =
     let within : count < length bytes = grind (arith, test) in
-    shorter bytes rest count within (if_rest (slice_index_or bytes count 0 == 0) (HasFile (take count bytes)) said (drop (count + 1) bytes) rest MissingZero (sym (file_is count bytes within) ∙ is))
+    shorter bytes rest count within (if_rest (slice_index_or bytes count 0 == 0) (HasFile (take count bytes)) parsed (drop (count + 1) bytes) rest MissingZero (sym (file_is count bytes within) ∙ is))
 
-pub less : (awaited : Awaited) (bytes : List ℕ) (said : ItemRecord) (rest : List ℕ) → prefix_of awaited bytes ≡ Gives said rest → length rest < length bytes
-less Command bytes said rest is = line_shorter command_line bytes (first_line_of LPD_LINE_BYTES bytes) said rest refl is
-less Subcommand bytes said rest is = line_shorter subcommand_line bytes (first_line_of LPD_LINE_BYTES bytes) said rest refl is
-less (File count) bytes said rest is = file_shorter count bytes said rest (nat_le (length bytes) count) refl is
-less Nothing bytes said rest is = absurd (let no : Waits ≡ Gives said rest = is in (cc))
+pub less : (awaited : Awaited) (bytes : List ℕ) (parsed : ItemRecord) (rest : List ℕ) → prefix_of awaited bytes ≡ Gives parsed rest → length rest < length bytes
+less Command bytes parsed rest is = line_shorter command_line bytes (first_line_of LPD_LINE_BYTES bytes) parsed rest refl is
+less Subcommand bytes parsed rest is = line_shorter subcommand_line bytes (first_line_of LPD_LINE_BYTES bytes) parsed rest refl is
+less (File count) bytes parsed rest is = file_shorter count bytes parsed rest (nat_le (length bytes) count) refl is
+less Nothing bytes parsed rest is = absurd (let no : Waits ≡ Gives parsed rest = is in (cc))
 
 -- ---- items, one after the other
 
 pub leads_then : (a : Awaited) (bytes : List ℕ) (first : List ItemRecord) (b : Awaited) (mid : List ℕ) (later : List ItemRecord) (c : Awaited) (left : List ℕ) → Leads a bytes first b mid → Leads b mid later c left → Leads a bytes (first ++ later) c left
 leads_then a bytes [] b mid later c left x y = subst (λ (q : Awaited). Leads q bytes later c left) x.0 (subst (λ (r : List ℕ). Leads b r later c left) x.1 y)
-leads_then a bytes (said ∷ first) b mid later c left x y = (x.0, x.1, leads_then (awaited_after said) x.0 first b mid later c left x.2 y)
+leads_then a bytes (parsed ∷ first) b mid later c left x y = (x.0, x.1, leads_then (awaited_after parsed) x.0 first b mid later c left x.2 y)
 
 pub reads_then : (a : Awaited) (bytes : List ℕ) (first : List ItemRecord) (b : Awaited) (mid : List ℕ) (items : List ItemRecord) (ending : Ending) → Leads a bytes first b mid → Parses b mid items ending → Parses a bytes (first ++ items) ending
 reads_then a bytes [] b mid items ending x y = subst (λ (q : Awaited). Parses q bytes items ending) x.0 (subst (λ (r : List ℕ). Parses b r items ending) x.1 y)
-reads_then a bytes (said ∷ first) b mid items ending x y = (x.0, x.1, reads_then (awaited_after said) x.0 first b mid items ending x.2 y)
+reads_then a bytes (parsed ∷ first) b mid items ending x y = (x.0, x.1, reads_then (awaited_after parsed) x.0 first b mid items ending x.2 y)
 
 pub leads_more : (a : Awaited) (bytes more : List ℕ) (items : List ItemRecord) (b : Awaited) (left : List ℕ) → Leads a bytes items b left → Leads a (bytes ++ more) items b (left ++ more)
 leads_more a bytes more [] b left x = (x.0, ap (λ l. l ++ more) x.1)
-leads_more a bytes more (said ∷ items) b left x = (x.0 ++ more, gives_more a bytes more said x.0 x.1, leads_more (awaited_after said) x.0 more items b left x.2)
+leads_more a bytes more (parsed ∷ items) b left x = (x.0 ++ more, gives_more a bytes more parsed x.0 x.1, leads_more (awaited_after parsed) x.0 more items b left x.2)
 
--- the items that all of the bytes say are said first
+-- the items of all of the bytes are parsed first
 pub reads_first : (a : Awaited) (bytes : List ℕ) (items : List ItemRecord) (ending : Ending) → Parses a bytes items ending → (next : Awaited) × (left : List ℕ) × Leads a bytes items next left × EndsAs (prefix_of next left) ending
 reads_first a bytes [] ending x = (a, bytes, (refl, refl), x)
-reads_first a bytes (said ∷ items) ending x =
-    let tail = reads_first (awaited_after said) x.0 items ending x.2 in
+reads_first a bytes (parsed ∷ items) ending x =
+    let tail = reads_first (awaited_after parsed) x.0 items ending x.2 in
     (tail.0, tail.1, (x.0, x.1, tail.2), tail.3)
 
 -- bytes that end have no item at the beginning
-ends_no : (prefix : Prefix) (ending : Ending) (said : ItemRecord) (rest : List ℕ) → EndsAs prefix ending → prefix ≡ Gives said rest → ⊥
-ends_no prefix Open said rest x is = let no : Waits ≡ Gives said rest = sym x ∙ is in (cc)
-ends_no prefix (Faulty fault) said rest x is = let no : Fails fault ≡ Gives said rest = sym x ∙ is in (cc)
+ends_no : (prefix : Prefix) (ending : Ending) (parsed : ItemRecord) (rest : List ℕ) → EndsAs prefix ending → prefix ≡ Gives parsed rest → ⊥
+ends_no prefix Open parsed rest x is = let no : Waits ≡ Gives parsed rest = sym x ∙ is in (cc)
+ends_no prefix (Faulty fault) parsed rest x is = let no : Fails fault ≡ Gives parsed rest = sym x ∙ is in (cc)
 
 ends_one : (prefix : Prefix) (end ending : Ending) → EndsAs prefix end → EndsAs prefix ending → end ≡ ending
 ends_one prefix Open Open x y = refl
@@ -166,40 +166,40 @@ ends_one prefix (Faulty fault) (Faulty other) x y =
 
 pub parses_one : (a : Awaited) (bytes : List ℕ) (given items : List ItemRecord) (end ending : Ending) → Parses a bytes given end → Parses a bytes items ending → (given ≡ items) × (end ≡ ending)
 parses_one a bytes [] [] end ending x y = (refl, ends_one (prefix_of a bytes) end ending x y)
-parses_one a bytes [] (said ∷ items) end ending x y = absurd (ends_no (prefix_of a bytes) end said y.0 x y.1)
-parses_one a bytes (said ∷ given) [] end ending x y = absurd (ends_no (prefix_of a bytes) ending said x.0 y x.1)
-parses_one a bytes (said ∷ given) (parsed ∷ items) end ending x y =
-    let same = gives_rest parsed said y.0 x.0 (sym y.1 ∙ x.1) in
-    let tail : Parses (awaited_after said) x.0 items ending = subst (λ (s : ItemRecord). Parses (awaited_after s) x.0 items ending) same.0 (subst (λ (r : List ℕ). Parses (awaited_after parsed) r items ending) same.1 y.2) in
-    let later = parses_one (awaited_after said) x.0 given items end ending x.2 tail in
-    (ap (λ s. s ∷ given) (sym same.0) ∙ ap (λ i. parsed ∷ i) later.0, later.1)
+parses_one a bytes [] (parsed ∷ items) end ending x y = absurd (ends_no (prefix_of a bytes) end parsed y.0 x y.1)
+parses_one a bytes (parsed ∷ given) [] end ending x y = absurd (ends_no (prefix_of a bytes) ending parsed x.0 y x.1)
+parses_one a bytes (parsed ∷ given) (reparsed ∷ items) end ending x y =
+    let same = gives_rest reparsed parsed y.0 x.0 (sym y.1 ∙ x.1) in
+    let tail : Parses (awaited_after parsed) x.0 items ending = subst (λ (s : ItemRecord). Parses (awaited_after s) x.0 items ending) same.0 (subst (λ (r : List ℕ). Parses (awaited_after reparsed) r items ending) same.1 y.2) in
+    let later = parses_one (awaited_after parsed) x.0 given items end ending x.2 tail in
+    (ap (λ s. s ∷ given) (sym same.0) ∙ ap (λ i. reparsed ∷ i) later.0, later.1)
 
 pub stays_in : (a : Awaited) (bytes more : List ℕ) (first : List ItemRecord) (b : Awaited) (left : List ℕ) (items : List ItemRecord) (ending : Ending) → Leads a bytes first b left → Parses a (bytes ++ more) items ending → (later : List ItemRecord) × (items ≡ first ++ later)
 stays_in a bytes more [] b left items ending x y = (items, refl)
-stays_in a bytes more (said ∷ first) b left [] ending x y = absurd (ends_no (prefix_of a (bytes ++ more)) ending said (x.0 ++ more) y (gives_more a bytes more said x.0 x.1))
-stays_in a bytes more (said ∷ first) b left (parsed ∷ items) ending x y =
-    let same = gives_rest parsed said y.0 (x.0 ++ more) (sym y.1 ∙ gives_more a bytes more said x.0 x.1) in
-    let tail : Parses (awaited_after said) (x.0 ++ more) items ending = subst (λ (s : ItemRecord). Parses (awaited_after s) (x.0 ++ more) items ending) same.0 (subst (λ (r : List ℕ). Parses (awaited_after parsed) r items ending) same.1 y.2) in
-    let later = stays_in (awaited_after said) x.0 more first b left items ending x.2 tail in
-    (later.0, ap (λ s. s ∷ items) same.0 ∙ ap (λ i. said ∷ i) later.1)
+stays_in a bytes more (parsed ∷ first) b left [] ending x y = absurd (ends_no (prefix_of a (bytes ++ more)) ending parsed (x.0 ++ more) y (gives_more a bytes more parsed x.0 x.1))
+stays_in a bytes more (parsed ∷ first) b left (reparsed ∷ items) ending x y =
+    let same = gives_rest reparsed parsed y.0 (x.0 ++ more) (sym y.1 ∙ gives_more a bytes more parsed x.0 x.1) in
+    let tail : Parses (awaited_after parsed) (x.0 ++ more) items ending = subst (λ (s : ItemRecord). Parses (awaited_after s) (x.0 ++ more) items ending) same.0 (subst (λ (r : List ℕ). Parses (awaited_after reparsed) r items ending) same.1 y.2) in
+    let later = stays_in (awaited_after parsed) x.0 more first b left items ending x.2 tail in
+    (later.0, ap (λ s. s ∷ items) same.0 ∙ ap (λ i. parsed ∷ i) later.1)
 
 -- of one length bytes say one list of items first
 pub leads_one : (a : Awaited) (bytes : List ℕ) (one other : List ItemRecord) (b c : Awaited) (left remainder : List ℕ) → Leads a bytes one b left → Leads a bytes other c remainder → length one ≡ length other → one ≡ other
 leads_one a bytes [] [] b c left remainder x y long = refl
-leads_one a bytes [] (parsed ∷ other) b c left remainder x y long = absurd (omega (arith, long))
-leads_one a bytes (said ∷ one) [] b c left remainder x y long = absurd (omega (arith, long))
-leads_one a bytes (said ∷ one) (parsed ∷ other) b c left remainder x y long =
-    let same = gives_rest parsed said y.0 x.0 (sym y.1 ∙ x.1) in
-    let tail : Leads (awaited_after said) x.0 other c remainder = subst (λ (s : ItemRecord). Leads (awaited_after s) x.0 other c remainder) same.0 (subst (λ (r : List ℕ). Leads (awaited_after parsed) r other c remainder) same.1 y.2) in
-    let later = leads_one (awaited_after said) x.0 one other b c left remainder x.2 tail (omega (arith, long)) in
-    ap (λ s. s ∷ one) (sym same.0) ∙ ap (λ i. parsed ∷ i) later
+leads_one a bytes [] (reparsed ∷ other) b c left remainder x y long = absurd (omega (arith, long))
+leads_one a bytes (parsed ∷ one) [] b c left remainder x y long = absurd (omega (arith, long))
+leads_one a bytes (parsed ∷ one) (reparsed ∷ other) b c left remainder x y long =
+    let same = gives_rest reparsed parsed y.0 x.0 (sym y.1 ∙ x.1) in
+    let tail : Leads (awaited_after parsed) x.0 other c remainder = subst (λ (s : ItemRecord). Leads (awaited_after s) x.0 other c remainder) same.0 (subst (λ (r : List ℕ). Leads (awaited_after reparsed) r other c remainder) same.1 y.2) in
+    let later = leads_one (awaited_after parsed) x.0 one other b c left remainder x.2 tail (omega (arith, long)) in
+    ap (λ s. s ∷ one) (sym same.0) ∙ ap (λ i. reparsed ∷ i) later
 
 -- no item is after all items of a stream
-pub none_follows : (a : Awaited) (bytes : List ℕ) (items : List ItemRecord) (said : ItemRecord) (b : Awaited) (left : List ℕ) (ending : Ending) → Leads a bytes (items ++ said ∷ []) b left → Parses a bytes items ending → ⊥
-none_follows a bytes [] said b left ending x y = ends_no (prefix_of a bytes) ending said x.0 y x.1
-none_follows a bytes (parsed ∷ items) said b left ending x y =
-    let same = gives_rest parsed parsed y.0 x.0 (sym y.1 ∙ x.1) in
-    none_follows (awaited_after parsed) x.0 items said b left ending x.2 (subst (λ (r : List ℕ). Parses (awaited_after parsed) r items ending) same.1 y.2)
+pub none_follows : (a : Awaited) (bytes : List ℕ) (items : List ItemRecord) (parsed : ItemRecord) (b : Awaited) (left : List ℕ) (ending : Ending) → Leads a bytes (items ++ parsed ∷ []) b left → Parses a bytes items ending → ⊥
+none_follows a bytes [] parsed b left ending x y = ends_no (prefix_of a bytes) ending parsed x.0 y x.1
+none_follows a bytes (reparsed ∷ items) parsed b left ending x y =
+    let same = gives_rest reparsed reparsed y.0 x.0 (sym y.1 ∙ x.1) in
+    none_follows (awaited_after reparsed) x.0 items parsed b left ending x.2 (subst (λ (r : List ℕ). Parses (awaited_after reparsed) r items ending) same.1 y.2)
 
 -- ---- every stream has its items
 
@@ -207,9 +207,9 @@ abbrev HasItems : Awaited → List ℕ → Type 0
 HasItems a bytes = (items : List ItemRecord) × (ending : Ending) × Parses a bytes items ending
 
 some_by : (a : Awaited) (bytes : List ℕ) (prefix : Prefix) → prefix_of a bytes ≡ prefix → ((b : Awaited) (rest : List ℕ) → length rest < length bytes → HasItems b rest) → HasItems a bytes
-some_by a bytes (Gives said rest) is later =
-    let tail = later (awaited_after said) rest (less a bytes said rest is) in
-    (said ∷ tail.0, tail.1, (rest, is, tail.2))
+some_by a bytes (Gives parsed rest) is later =
+    let tail = later (awaited_after parsed) rest (less a bytes parsed rest is) in
+    (parsed ∷ tail.0, tail.1, (rest, is, tail.2))
 some_by a bytes (Fails fault) is later = ([], Faulty fault, is)
 some_by a bytes Waits is later = ([], Open, is)
 

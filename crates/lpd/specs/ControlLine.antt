@@ -16,7 +16,7 @@ line_record (line.Prints print) = Prints print
 line_record line.Ignored = Ignored
 
 abbrev pub parsed_line : Result ControlLine ControlFault → Result LineRecord ControlFault
-parsed_line (Ok said) = Ok (line_record said)
+parsed_line (Ok parsed) = Ok (line_record parsed)
 parsed_line (Err fault) = Err fault
 
 -- a result is what the definition reads, unless memory ran out

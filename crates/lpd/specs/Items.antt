@@ -38,7 +38,7 @@ item_record item.File file = HasFile file
 
 -- the record of a line's item, or its fault
 abbrev pub line_record : Result LpdItem LpdFault → Result ItemRecord LpdFault
-line_record (Ok said) = Ok (item_record said [])
+line_record (Ok parsed) = Ok (item_record parsed [])
 line_record (Err fault) = Err fault
 
 -- the part that is awaited after an item: a subcommand after the command to receive a job, and the file after its announcement. Nothing is awaited after any other command, since a connection has one command

@@ -16,12 +16,12 @@ use Rattle.lpd.specs.Command.{command_line, subcommand_line, awaits_line}
 
 -- the beginning of the bytes: an item and the bytes after it, a fault, or a wait for more bytes
 pub data Prefix : Type 0 where
-  Gives : (said : ItemRecord) (rest : List ℕ) → Prefix
+  Gives : (parsed : ItemRecord) (rest : List ℕ) → Prefix
   Fails : LpdFault → Prefix
   Waits : Prefix
 
 abbrev pub line_parses : Result ItemRecord LpdFault → List ℕ → Prefix
-line_parses (Ok said) rest = Gives said rest
+line_parses (Ok parsed) rest = Gives parsed rest
 line_parses (Err fault) rest = Fails fault
 
 -- the prefix at a line whose content is known
@@ -55,7 +55,7 @@ EndsAs prefix (Faulty fault) = prefix ≡ Fails fault
 -- the bytes parse as these items, one after the other, and then end with `ending`
 abbrev pub Parses : Awaited → List ℕ → List ItemRecord → Ending → Type 0
 Parses awaited bytes [] ending = EndsAs (prefix_of awaited bytes) ending
-Parses awaited bytes (said ∷ items) ending = (rest : List ℕ) × (prefix_of awaited bytes ≡ Gives said rest) × Parses (awaited_after said) rest items ending
+Parses awaited bytes (parsed ∷ items) ending = (rest : List ℕ) × (prefix_of awaited bytes ≡ Gives parsed rest) × Parses (awaited_after parsed) rest items ending
 
 -- the items of a whole stream of bytes, and its end
 abbrev pub LpdItems : List ℕ → List ItemRecord → Ending → Type 0
@@ -64,7 +64,7 @@ LpdItems stream items ending = Parses Command stream items ending
 -- the bytes parse as these items, and lead to this state with these bytes left
 abbrev pub Leads : Awaited → List ℕ → List ItemRecord → Awaited → List ℕ → Type 0
 Leads awaited bytes [] next left = (next ≡ awaited) × (left ≡ bytes)
-Leads awaited bytes (said ∷ items) next left = (rest : List ℕ) × (prefix_of awaited bytes ≡ Gives said rest) × Leads (awaited_after said) rest items next left
+Leads awaited bytes (parsed ∷ items) next left = (rest : List ℕ) × (prefix_of awaited bytes ≡ Gives parsed rest) × Leads (awaited_after parsed) rest items next left
 
 -- these are the first items of the stream, whatever bytes follow
 pub record ParsesFirst (stream : List ℕ) (items : List ItemRecord) : Type 0 where
@@ -111,8 +111,8 @@ work reader = length reader.rest
 
 -- the answer of a reader, and its state then: the next item of the stream; or no item, and then the stream contains no more; or a fault; or refused memory, which comes only where a line is awaited
 abbrev pub Answers : LpdState → Result (Option LpdItem) LpdError → LpdState → Type 0
-Answers old (Ok (Some said)) new =
-    (stream : List ℕ) (given : List ItemRecord) → HasRead stream given old → HasRead stream (given ++ item_record said new.file ∷ []) new
+Answers old (Ok (Some parsed)) new =
+    (stream : List ℕ) (given : List ItemRecord) → HasRead stream given old → HasRead stream (given ++ item_record parsed new.file ∷ []) new
 Answers old (Ok None) new =
     (new ≡ old) × ((stream : List ℕ) (given : List ItemRecord) → HasRead stream given old → LpdItems stream given Open)
 Answers old (Err (Fault fault)) new =
@@ -147,7 +147,7 @@ FirstIsOne = (stream : List ℕ) (one other : List ItemRecord) → ParsesFirst s
 
 -- a stream contains no item after all of its items
 abbrev pub NoneFollows : Type 0
-NoneFollows = (stream : List ℕ) (items : List ItemRecord) (said : ItemRecord) (ending : Ending) → ParsesFirst stream (items ++ said ∷ []) → LpdItems stream items ending → ⊥
+NoneFollows = (stream : List ℕ) (items : List ItemRecord) (parsed : ItemRecord) (ending : Ending) → ParsesFirst stream (items ++ parsed ∷ []) → LpdItems stream items ending → ⊥
 
 -- the items of a whole stream are those that a reader has given, and then those that the reader's state parses from its bytes and the bytes that follow
 abbrev pub ParsesTheRest : Type 0

@@ -18,7 +18,7 @@ pub(crate) fn read_command(
     alloc: Global,
     line: &[u8],
 ) -> Result<Result<LpdItem, LpdFault>, AllocError>
-    ensures { IfOk result (λ said. line_record said ≡ command_line line.now) }
+    ensures { IfOk result (λ parsed. line_record parsed ≡ command_line line.now) }
 {
     let Some((code, text)) = line.split_first() else {
         return Ok(Err(LpdFault::UnknownCode));
@@ -65,7 +65,7 @@ pub(crate) fn read_subcommand(
     alloc: Global,
     line: &[u8],
 ) -> Result<Result<LpdItem, LpdFault>, AllocError>
-    ensures { IfOk result (λ said. line_record said ≡ subcommand_line line.now) }
+    ensures { IfOk result (λ parsed. line_record parsed ≡ subcommand_line line.now) }
 {
     let Some((code, text)) = line.split_first() else {
         return Ok(Err(LpdFault::UnknownCode));
@@ -85,7 +85,7 @@ fn announced(
     kind: FileKind,
     words: &[&[u8]],
 ) -> Result<Result<LpdItem, LpdFault>, AllocError>
-    ensures { IfOk result (λ said. line_record said ≡ announced kind (map (λ word. word.now) words.now)) }
+    ensures { IfOk result (λ parsed. line_record parsed ≡ announced kind (map (λ word. word.now) words.now)) }
 {
     let Some(length) = file_length(first_word(words)) else {
         return Ok(Err(LpdFault::BadCount));

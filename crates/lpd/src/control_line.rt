@@ -22,11 +22,11 @@ pub(crate) enum ControlLine {
 }
 
 /// The content of a line, or its fault.
-type Said = Result<ControlLine, ControlFault>;
+type Parsed = Result<ControlLine, ControlFault>;
 
 /// Reads a line, without its line feed.
-pub(crate) fn read_line(alloc: Global, line: &[u8]) -> Result<Said, AllocError>
-    ensures { IfOk result (λ said. parsed_line said ≡ line_in line.now) }
+pub(crate) fn read_line(alloc: Global, line: &[u8]) -> Result<Parsed, AllocError>
+    ensures { IfOk result (λ parsed. parsed_line parsed ≡ line_in line.now) }
 {
     let Some((letter, operand)) = line.split_first() else {
         return Ok(Err(ControlFault::BadLine));
@@ -38,8 +38,8 @@ pub(crate) fn read_line(alloc: Global, line: &[u8]) -> Result<Said, AllocError>
 }
 
 /// Reads a line by its letter and operand (RFC 1179, section 7).
-fn read_lettered(alloc: Global, letter: u8, operand: &[u8]) -> Result<Said, AllocError>
-    ensures { IfOk result (λ said. parsed_line said ≡ lettered letter operand.now) }
+fn read_lettered(alloc: Global, letter: u8, operand: &[u8]) -> Result<Parsed, AllocError>
+    ensures { IfOk result (λ parsed. parsed_line parsed ≡ lettered letter operand.now) }
 {
     match letter {
         b'H' => Ok(Ok(ControlLine::Host(Text::copy_of(alloc, operand)?))),
@@ -54,7 +54,7 @@ fn read_lettered(alloc: Global, letter: u8, operand: &[u8]) -> Result<Said, Allo
 }
 
 /// The content of a line of any other letter: a fault or [`ControlLine::Ignored`].
-fn other(letter: u8) -> Said
+fn other(letter: u8) -> Parsed
     ensures { parsed_line result ≡ other_line letter }
 {
     match letter {
@@ -65,8 +65,8 @@ fn other(letter: u8) -> Said
 }
 
 /// Reads a print line, of a format and the name of a data file.
-fn print(alloc: Global, format: PrintFormat, name: &[u8]) -> Result<Said, AllocError>
-    ensures { IfOk result (λ said. parsed_line said ≡ print_of format name.now) }
+fn print(alloc: Global, format: PrintFormat, name: &[u8]) -> Result<Parsed, AllocError>
+    ensures { IfOk result (λ parsed. parsed_line parsed ≡ print_of format name.now) }
 {
     if !is_file_name(FileKind::Data, name) {
         return Ok(Err(ControlFault::BadLine));

@@ -16,7 +16,7 @@ pub fn one_prefix()
 
 /// The items of a stream are a prefix of the items of the stream with more bytes after it, and a fault stays
 /// the last.
-pub fn said_stays()
+pub fn parse_stays()
     ensures prefix { StaysInPrefix }
     ensures fault { FaultStays }
 {}

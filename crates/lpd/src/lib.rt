@@ -26,7 +26,7 @@ mod words;
 
 pub use fault::{LpdError, LpdFault};
 pub use item::{FileHead, FileKind, LpdCommand, LpdItem};
-pub use law::{given_first, one_parse, one_prefix, said_stays};
+pub use law::{given_first, one_parse, one_prefix, parse_stays};
 pub use reader::LpdReader;
 pub use sent::SentJob;
 pub use session::Session;

@@ -90,7 +90,7 @@ impl LpdReader {
     #[tactic(auto, using(crate::proofs::ReaderPlace::answers_again))]
     pub fn next_item(&mut self) -> Result<Option<LpdItem>, LpdError>
         ensures answer { Answers self.old result self.new }
-        ensures falls { IfOk result (λ said. IsSome said → work self.new < work self.old) }
+        ensures falls { IfOk result (λ parsed. IsSome parsed → work self.new < work self.old) }
         ensures kept { IfSome self.old.fault (λ fault. result ≡ Err (LpdError.Fault fault)) }
     {
         if let Some(fault) = self.fault() {
@@ -115,7 +115,7 @@ impl LpdReader {
         requires line { awaits_line self.old.awaited ≡ true }
         requires faultless { self.old.fault ≡ None }
         ensures answer { Answers self.old result self.new }
-        ensures falls { IfOk result (λ said. IsSome said → work self.new < work self.old) }
+        ensures falls { IfOk result (λ parsed. IsSome parsed → work self.new < work self.old) }
     {
         match first_line(self.rest(), Limits::LPD_LINE_BYTES) {
             FirstLine::Unfinished => Ok(None),
@@ -130,7 +130,7 @@ impl LpdReader {
         requires line { awaits_line self.old.awaited ≡ true }
         requires faultless { self.old.fault ≡ None }
         ensures answer { Answers self.old result self.new }
-        ensures falls { IfOk result (λ said. IsSome said → work self.new < work self.old) }
+        ensures falls { IfOk result (λ parsed. IsSome parsed → work self.new < work self.old) }
     {
         match self.read_prefix(length)? {
             Err(fault) => Err(self.fail(fault)),
@@ -146,7 +146,7 @@ impl LpdReader {
         requires file { self.old.awaited ≡ Awaited.File length }
         requires faultless { self.old.fault ≡ None }
         ensures answer { Answers self.old result self.new }
-        ensures falls { IfOk result (λ said. IsSome said → work self.new < work self.old) }
+        ensures falls { IfOk result (λ parsed. IsSome parsed → work self.new < work self.old) }
     {
         let length = length as usize;
         let rest = self.rest();
@@ -191,7 +191,7 @@ impl LpdReader {
     /// The content of the line of `length` bytes at the beginning.
     fn read_prefix(&self, length: usize) -> Result<Result<LpdItem, LpdFault>, AllocError>
         requires { length < length_of self.now.rest }
-        ensures { IfOk result (λ said. line_record said ≡ meaning_of self.now.awaited (take length self.now.rest)) }
+        ensures { IfOk result (λ parsed. line_record parsed ≡ meaning_of self.now.awaited (take length self.now.rest)) }
     {
         let line = &self.rest()[..length];
         match self.awaited() {

@@ -23,7 +23,7 @@ use Rattle.plan_text.specs.Whole.{plan_at}
 use Rattle.program.specs.declared.exit_status.ExitStatus.{ExitStatus}
 use Rattle.program.specs.declared.exit_status.ExitStatus.TheVariants as Ends
 use Rattle.program.specs.Input.{IsWhole, GaveMore}
-use Rattle.program.specs.Said.{refused_as}
+use Rattle.program.specs.Output.{refused_as}
 
 abbrev pub text_fault_name : TextFault → List ℕ
 text_fault_name BadLine = codes "BadLine"

@@ -22,7 +22,7 @@ use Rattle.plan_text.specs.Writing.{job_lines, way_lines, place_price_lines, cla
 use Rattle.plan_text.specs.Ranges.{IsPrice, IsClassInRange, PrioritiesFall, StrandedRise, jobs_in, IsPlanInRange}
 use Rattle.plan_text.proofs.Problems.{problem_is}
 use Rattle.plan_text.proofs.Sound.{ok}
-use Rattle.plan_text.proofs.Said.{AllInRange, AllInRange-append, plan_lines_next, text_said}
+use Rattle.plan_text.proofs.LinesReadBack.{AllInRange, AllInRange-append, plan_lines_next, text_parsed}
 
 true_is : (b : Bool) → IsTrue b → b ≡ true
 true_is b h = h
@@ -83,8 +83,8 @@ plan_in_range named r = (
 -- ---- the devices
 
 -- one step
-stepped : (draft new : DraftRecord) (said : PlanLine) (rest : List PlanLine) → is_at draft stages.Ended ≡ false → next draft said ≡ ok new → plan_lines_next draft (said ∷ rest) ≡ plan_lines_next new rest
-stepped draft new said rest live step = rw (live, step) refl
+stepped : (draft new : DraftRecord) (parsed : PlanLine) (rest : List PlanLine) → is_at draft stages.Ended ≡ false → next draft parsed ≡ ok new → plan_lines_next draft (parsed ∷ rest) ≡ plan_lines_next new rest
+stepped draft new parsed rest live step = rw (live, step) refl
 
 abbrev pub with_devices : List (List ℕ) → DraftRecord
 with_devices devices = record { stage = stages.Devices; devices = devices; classes = []; stranded = []; jobs = 0; below = HIGHEST_PRIORITY + 1; last = 0; opened = opened_at DEFAULT_PRIORITY }
@@ -400,7 +400,7 @@ plan_back named r =
     (classes_run devices [] 0 (HIGHEST_PRIORITY + 1) (with_devices devices) classes lines2 (between_none devices) r.fall r.classes (omega (arith, r.few_jobs))) in
     let s : AfterStranded devices classes stranded c.draft' (stranded_lines stranded) last =
     stranded_run devices classes [] (jobs_in classes) 0 c.draft' stranded last (ready_from devices classes (jobs_in classes) c.below c.draft' c.between) r.rise r.few_jobs in
-    text_said (plan_lines named) (plan_in_range named r)
+    text_parsed (plan_lines named) (plan_in_range named r)
     ∙ ap finish (stepped (empty_draft DEFAULT_PRIORITY) (with_devices []) HeadLine (device_lines devices ++ lines1) refl plan_step)
     ∙ ap finish (devices_run [] devices lines1 (omega (arith, r.few_devices)))
     ∙ ap finish c.reads

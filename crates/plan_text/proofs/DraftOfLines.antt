@@ -30,7 +30,7 @@ use Rattle.plan_text.specs.Ranges.{IsPrice, IsClassInRange, PrioritiesFall, Stra
 use Rattle.plan_text.proofs.Problems.{problem_from}
 use Rattle.plan_text.proofs.Lines.{lines_append}
 use Rattle.plan_text.proofs.Sound.{ok, ok_is, taken, passed, either}
-use Rattle.plan_text.proofs.Said.{SaidInRange, feed}
+use Rattle.plan_text.proofs.LinesReadBack.{ParsedInRange, feed}
 use Rattle.plan_text.proofs.Back.{with_devices, plan_back}
 use Rattle.plan_text.proofs.Spelt.{same_bytes, line_spelt}
 
@@ -149,18 +149,18 @@ tells_at : (stage : Stage) (lines : List PlanLine) (h : DraftRecord) → is_at h
 tells_at stage lines h is t = subst (λ s. TellsAt s lines h) (stage_is h stage is) t
 
 abbrev WouldDraft : List PlanLine → PlanLine → DraftRecord → Type 0
-WouldDraft lines said new = Drafts (lines ++ said ∷ []) new
+WouldDraft lines parsed new = Drafts (lines ++ parsed ∷ []) new
 
 -- a line after this number of parts
 
-behind1 : (a b : List PlanLine) (said : PlanLine) → (a ++ b) ++ said ∷ [] ≡ a ++ (b ++ said ∷ [])
-behind1 a b said = append_assoc a b (said ∷ [])
+behind1 : (a b : List PlanLine) (parsed : PlanLine) → (a ++ b) ++ parsed ∷ [] ≡ a ++ (b ++ parsed ∷ [])
+behind1 a b parsed = append_assoc a b (parsed ∷ [])
 
-behind2 : (a b c : List PlanLine) (said : PlanLine) → (a ++ (b ++ c)) ++ said ∷ [] ≡ a ++ (b ++ (c ++ said ∷ []))
-behind2 a b c said = behind1 a (b ++ c) said ∙ ap (λ l. a ++ l) (behind1 b c said)
+behind2 : (a b c : List PlanLine) (parsed : PlanLine) → (a ++ (b ++ c)) ++ parsed ∷ [] ≡ a ++ (b ++ (c ++ parsed ∷ []))
+behind2 a b c parsed = behind1 a (b ++ c) parsed ∙ ap (λ l. a ++ l) (behind1 b c parsed)
 
-behind3 : (a b c d : List PlanLine) (said : PlanLine) → (a ++ (b ++ (c ++ d))) ++ said ∷ [] ≡ a ++ (b ++ (c ++ (d ++ said ∷ [])))
-behind3 a b c d said = behind2 a b (c ++ d) said ∙ ap (λ l. a ++ (b ++ l)) (behind1 c d said)
+behind3 : (a b c d : List PlanLine) (parsed : PlanLine) → (a ++ (b ++ (c ++ d))) ++ parsed ∷ [] ≡ a ++ (b ++ (c ++ (d ++ parsed ∷ [])))
+behind3 a b c d parsed = behind2 a b (c ++ d) parsed ∙ ap (λ l. a ++ (b ++ l)) (behind1 c d parsed)
 
 -- ---- one more of each
 
@@ -555,7 +555,7 @@ end_drafted draft new lines h tells =
     let facts : WouldDraft lines EndLine after = (text, later) in
     subst (WouldDraft lines EndLine) (ok_is after new w.2) facts
 
-next_drafted : (draft new : DraftRecord) (lines : List PlanLine) (said : PlanLine) → next draft said ≡ ok new → SaidInRange said → Drafts lines draft → WouldDraft lines said new
+next_drafted : (draft new : DraftRecord) (lines : List PlanLine) (parsed : PlanLine) → next draft parsed ≡ ok new → ParsedInRange parsed → Drafts lines draft → WouldDraft lines parsed new
 next_drafted draft new lines HeadLine h r t = plan_drafted draft new lines h t
 next_drafted draft new lines (DeviceLine name) h r t = device_drafted draft new lines name h r t
 next_drafted draft new lines (ClassLine priority) h r t = class_drafted draft new lines priority h r t
@@ -577,23 +577,23 @@ fed (line ∷ lines) = line ++ (10 ∷ fed lines)
 
 -- the lines that were read are the lines of the reader's state
 record DraftRecord' (before : List PlanLine) (lines : List (List ℕ)) (new : DraftRecord) : Type 0 where
-  pub said : List PlanLine
-  pub tells : Drafts said new
-  pub text : lines_text before ++ fed lines ≡ lines_text said
+  pub parsed : List PlanLine
+  pub tells : Drafts parsed new
+  pub text : lines_text before ++ fed lines ≡ lines_text parsed
 
 line_drafted : (draft new : DraftRecord) (before : List PlanLine) (line : List ℕ) (lines : List (List ℕ)) → lines_next draft (line ∷ lines) ≡ ok new → Drafts before draft
     → ((then' : DraftRecord) (more : List PlanLine) → lines_next then' lines ≡ ok new → Drafts more then' → DraftRecord' more lines new) → DraftRecord' before (line ∷ lines) new
 unfolding line_next
 line_drafted draft new before line lines h t later =
     let w = went_on (line_next draft line) (λ then'. lines_next then' lines) new h in
-    let p = passed (is_at draft stages.Ended) (line_at (words_of line) >>= λ said. next draft said) BadLine w.0 w.1 in
-    let s = went_on (line_at (words_of line)) (λ said. next draft said) w.0 p.1 in
+    let p = passed (is_at draft stages.Ended) (line_at (words_of line) >>= λ parsed. next draft parsed) BadLine w.0 w.1 in
+    let s = went_on (line_at (words_of line)) (λ parsed. next draft parsed) w.0 p.1 in
     let spelt = line_spelt line s.0 s.1 in
     let more : List PlanLine = before ++ s.0 ∷ [] in
     let rest = later w.0 more w.2 (next_drafted draft w.0 before s.0 s.2 spelt.1 t) in
     let one : lines_text more ≡ lines_text before ++ (line ++ feed) = lines_append before (s.0 ∷ []) ∙ ap (λ l. lines_text before ++ l) (append-nil (line_text s.0) ∙ sym spelt.0) in
     record {
-      said = rest.said;
+      parsed = rest.parsed;
       tells = rest.tells;
       text =
           ap (λ l. lines_text before ++ l) (sym (append_assoc line feed (fed lines)))
@@ -603,7 +603,7 @@ line_drafted draft new before line lines h t later =
     }
 
 lines_drafted : (draft new : DraftRecord) (before : List PlanLine) (lines : List (List ℕ)) → lines_next draft lines ≡ ok new → Drafts before draft → DraftRecord' before lines new
-lines_drafted draft new before [] h t = record { said = before; tells = subst (Drafts before) (ok_is draft new h) t; text = append-nil (lines_text before) }
+lines_drafted draft new before [] h t = record { parsed = before; tells = subst (Drafts before) (ok_is draft new h) t; text = append-nil (lines_text before) }
 lines_drafted draft new before (line ∷ lines) h t = line_drafted draft new before line lines h t (λ then' more later drafted. lines_drafted then' new more lines later drafted)
 
 -- the parts of a text that ends with a line feed
@@ -619,9 +619,9 @@ none_of [] h = refl
 none_of (x ∷ xs) h = absurd (omega (arith, eqb-true (length (x ∷ xs)) 0 h))
 
 -- a drafted plan is in range, and its text is the lines
-ended_drafted : (draft : DraftRecord) (said : List PlanLine) → is_at draft stages.Ended ≡ true → Drafts said draft → IsPlanInRange (plan_of draft) × (said ≡ plan_lines (plan_of draft))
-ended_drafted draft said at tells =
-    let here = tells_at stages.Ended said draft at tells in
+ended_drafted : (draft : DraftRecord) (parsed : List PlanLine) → is_at draft stages.Ended ≡ true → Drafts parsed draft → IsPlanInRange (plan_of draft) × (parsed ≡ plan_lines (plan_of draft))
+ended_drafted draft parsed at tells =
+    let here = tells_at stages.Ended parsed draft at tells in
     let o : IsOver draft = here.1 in (
       record {
         few_devices = o.prefix.few_devices;
@@ -648,7 +648,7 @@ text_drafted text named h =
     let p = passed (not (is_at draft stages.Ended)) (if length rest == 0 then ok (plan_of draft) else Err BadLine) NoEnd named w.2 in
     let t = taken (length rest == 0) (ok (plan_of draft)) BadLine named p.1 in
     let drafted : DraftRecord' [] lines draft = lines_drafted (empty_draft DEFAULT_PRIORITY) draft [] lines w.1 (refl, refl) in
-    let whole = ended_drafted draft drafted.said (not-false (is_at draft stages.Ended) p.0) drafted.tells in
+    let whole = ended_drafted draft drafted.parsed (not-false (is_at draft stages.Ended) p.0) drafted.tells in
     let is : text ≡ plan_text (plan_of draft) =
     sym (join_with_byte-slice_split 10 text)
     ∙ parts_fed n parts refl (none_of rest t.0)

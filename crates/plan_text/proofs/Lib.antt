@@ -4,7 +4,7 @@ pub mod Parts
 pub mod Lines
 pub mod Sound
 pub mod Again
-pub mod Said
+pub mod LinesReadBack
 pub mod Back
 pub mod Spelt
 pub mod DraftOfLines

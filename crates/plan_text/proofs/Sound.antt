@@ -197,7 +197,7 @@ end_sound draft new h s =
     let sound : IsSound after = record { kept = over_kept draft whole w.1 s; none_yet = λ l. absurd (omega (arith, l)); waits = λ l m. absurd (omega (arith, m)); ways = λ l m. absurd (omega (arith, m)) } in
     subst IsSound (ok_is after new w.2) sound
 
-next_sound : (draft new : DraftRecord) (said : PlanLine) → next draft said ≡ ok new → IsSound draft → IsSound new
+next_sound : (draft new : DraftRecord) (parsed : PlanLine) → next draft parsed ≡ ok new → IsSound draft → IsSound new
 next_sound draft new HeadLine h s = plan_sound draft new h s
 next_sound draft new (DeviceLine name) h s = device_sound draft new name h s
 next_sound draft new (ClassLine priority) h s = class_sound draft new priority h s
@@ -213,8 +213,8 @@ next_sound draft new EndLine h s = end_sound draft new h s
 line_sound : (draft new : DraftRecord) (line : List ℕ) → line_next draft line ≡ ok new → IsSound draft → IsSound new
 unfolding line_next
 line_sound draft new line h s =
-    let p = passed (is_at draft stages.Ended) (line_at (words_of line) >>= λ said. next draft said) BadLine new h in
-    let w = went_on (line_at (words_of line)) (λ said. next draft said) new p.1 in
+    let p = passed (is_at draft stages.Ended) (line_at (words_of line) >>= λ parsed. next draft parsed) BadLine new h in
+    let w = went_on (line_at (words_of line)) (λ parsed. next draft parsed) new p.1 in
     next_sound draft new w.0 w.2 s
 
 lines_sound : (draft new : DraftRecord) (lines : List (List ℕ)) → lines_next draft lines ≡ ok new → IsSound draft → IsSound new

@@ -27,7 +27,7 @@ use Rattle.plan_text.specs.Writing.{entry_word, cause_word, line_text}
 use Rattle.plan_text.specs.Ranges.{IsPrice}
 use Rattle.plan_text.proofs.Sound.{ok, ok_is, taken, passed, either}
 use Rattle.plan_text.proofs.Again.{own, spaced}
-use Rattle.plan_text.proofs.Said.{SaidInRange, first_of, rest_of, body_of, feed, line_is}
+use Rattle.plan_text.proofs.LinesReadBack.{ParsedInRange, first_of, rest_of, body_of, feed, line_is}
 
 -- ---- texts that are cut
 
@@ -190,7 +190,7 @@ cause_spelt word cause h =
 
 -- these words are the rest of a line with this content
 abbrev IsRest : List (List ℕ) → PlanLine → Type 0
-IsRest words said = (words ≡ rest_of said) × SaidInRange said
+IsRest words parsed = (words ≡ rest_of parsed) × ParsedInRange parsed
 
 one : (words : List (List ℕ)) (word : List ℕ) → only_word words ≡ ok word → words ≡ word ∷ []
 one [] word h = absurd (cc)
@@ -201,133 +201,133 @@ split : (words : List (List ℕ)) (w : List ℕ × List (List ℕ)) → first_wo
 split [] w h = absurd (cc)
 split (first ∷ words) w h = ap (λ (x : List ℕ × List (List ℕ)). x.0 ∷ x.1) (ok_is (first, words) w h)
 
-none : (line said : PlanLine) (words : List (List ℕ)) → alone_at line words ≡ ok said → (words ≡ []) × (line ≡ said)
-none line said [] h = (refl, ok_is line said h)
-none line said (word ∷ words) h = absurd (cc)
+none : (line parsed : PlanLine) (words : List (List ℕ)) → alone_at line words ≡ ok parsed → (words ≡ []) × (line ≡ parsed)
+none line parsed [] h = (refl, ok_is line parsed h)
+none line parsed (word ∷ words) h = absurd (cc)
 
-device_spelt : (words : List (List ℕ)) (said : PlanLine) → device_at words ≡ ok said → IsRest words said × (first_of said ≡ codes "device")
+device_spelt : (words : List (List ℕ)) (parsed : PlanLine) → device_at words ≡ ok parsed → IsRest words parsed × (first_of parsed ≡ codes "device")
 unfolding device_at
-device_spelt words said h =
+device_spelt words parsed h =
     let E : PlanLine → Type 0 = λ s. IsRest words s × (first_of s ≡ codes "device") in
-    let w = went_on (only_word words) (λ name. if is_name name then ok (DeviceLine name) else Err BadLine) said h in
-    let t = taken (is_name w.0) (ok (DeviceLine w.0)) BadLine said w.2 in
-    subst E (ok_is (DeviceLine w.0) said t.1) ((one words w.0 w.1, t.0), refl)
+    let w = went_on (only_word words) (λ name. if is_name name then ok (DeviceLine name) else Err BadLine) parsed h in
+    let t = taken (is_name w.0) (ok (DeviceLine w.0)) BadLine parsed w.2 in
+    subst E (ok_is (DeviceLine w.0) parsed t.1) ((one words w.0 w.1, t.0), refl)
 
-class_spelt : (words : List (List ℕ)) (said : PlanLine) → class_at words ≡ ok said → IsRest words said × (first_of said ≡ codes "class")
+class_spelt : (words : List (List ℕ)) (parsed : PlanLine) → class_at words ≡ ok parsed → IsRest words parsed × (first_of parsed ≡ codes "class")
 unfolding class_at
-class_spelt words said h =
+class_spelt words parsed h =
     let E : PlanLine → Type 0 = λ s. IsRest words s × (first_of s ≡ codes "class") in
-    let w = went_on (only_word words) (λ priority. number_at 1 HIGHEST_PRIORITY priority >>= λ p. ok (ClassLine p)) said h in
-    let p = went_on (number_at 1 HIGHEST_PRIORITY w.0) (λ p. ok (ClassLine p)) said w.2 in
+    let w = went_on (only_word words) (λ priority. number_at 1 HIGHEST_PRIORITY priority >>= λ p. ok (ClassLine p)) parsed h in
+    let p = went_on (number_at 1 HIGHEST_PRIORITY w.0) (λ p. ok (ClassLine p)) parsed w.2 in
     let s = number_spelt 1 HIGHEST_PRIORITY w.0 p.0 (omega arith) p.1 in
-    subst E (ok_is (ClassLine p.0) said p.2) ((one words w.0 w.1 ∙ ap (λ x. x ∷ []) s.0, (s.1, s.2)), refl)
+    subst E (ok_is (ClassLine p.0) parsed p.2) ((one words w.0 w.1 ∙ ap (λ x. x ∷ []) s.0, (s.1, s.2)), refl)
 
-job_spelt : (words : List (List ℕ)) (said : PlanLine) → job_at words ≡ ok said → IsRest words said × (first_of said ≡ codes "job")
+job_spelt : (words : List (List ℕ)) (parsed : PlanLine) → job_at words ≡ ok parsed → IsRest words parsed × (first_of parsed ≡ codes "job")
 unfolding job_at
-job_spelt words said h =
+job_spelt words parsed h =
     let E : PlanLine → Type 0 = λ s. IsRest words s × (first_of s ≡ codes "job") in
-    let w = went_on (first_word words) (λ w. if is_number w.0 && list_all is_entry w.1 then (number_at 1 LAST_JOB_ID w.0 >>= λ id. (entries_at w.1 >>= λ times. ok (JobLine id times))) else Err BadLine) said h in
-    let t = taken (is_number w.0.0 && list_all is_entry w.0.1) (number_at 1 LAST_JOB_ID w.0.0 >>= λ id. (entries_at w.0.1 >>= λ times. ok (JobLine id times))) BadLine said w.2 in
-    let i = went_on (number_at 1 LAST_JOB_ID w.0.0) (λ id. entries_at w.0.1 >>= λ times. ok (JobLine id times)) said t.1 in
-    let e = went_on (entries_at w.0.1) (λ times. ok (JobLine i.0 times)) said i.2 in
+    let w = went_on (first_word words) (λ w. if is_number w.0 && list_all is_entry w.1 then (number_at 1 LAST_JOB_ID w.0 >>= λ id. (entries_at w.1 >>= λ times. ok (JobLine id times))) else Err BadLine) parsed h in
+    let t = taken (is_number w.0.0 && list_all is_entry w.0.1) (number_at 1 LAST_JOB_ID w.0.0 >>= λ id. (entries_at w.0.1 >>= λ times. ok (JobLine id times))) BadLine parsed w.2 in
+    let i = went_on (number_at 1 LAST_JOB_ID w.0.0) (λ id. entries_at w.0.1 >>= λ times. ok (JobLine id times)) parsed t.1 in
+    let e = went_on (entries_at w.0.1) (λ times. ok (JobLine i.0 times)) parsed i.2 in
     let s = number_spelt 1 LAST_JOB_ID w.0.0 i.0 (omega arith) i.1 in
     let all = entries_spelt w.0.1 e.0 e.1 in
-    subst E (ok_is (JobLine i.0 e.0) said e.2) ((split words w.0 w.1 ∙ ap (λ x. x ∷ w.0.1) s.0 ∙ ap (λ xs. decimal i.0 ∷ xs) all.0, ((s.1, s.2), all.1)), refl)
+    subst E (ok_is (JobLine i.0 e.0) parsed e.2) ((split words w.0 w.1 ∙ ap (λ x. x ∷ w.0.1) s.0 ∙ ap (λ xs. decimal i.0 ∷ xs) all.0, ((s.1, s.2), all.1)), refl)
 
-wait_spelt : (words : List (List ℕ)) (said : PlanLine) → wait_at words ≡ ok said → IsRest words said × (first_of said ≡ codes "wait")
+wait_spelt : (words : List (List ℕ)) (parsed : PlanLine) → wait_at words ≡ ok parsed → IsRest words parsed × (first_of parsed ≡ codes "wait")
 unfolding wait_at
-wait_spelt words said h =
+wait_spelt words parsed h =
     let E : PlanLine → Type 0 = λ s. IsRest words s × (first_of s ≡ codes "wait") in
-    let t = taken (list_all is_number words) (numbers_at 0 WAIT words >>= λ waits. ok (WaitLine waits)) BadLine said h in
-    let n = went_on (numbers_at 0 WAIT words) (λ waits. ok (WaitLine waits)) said t.1 in
+    let t = taken (list_all is_number words) (numbers_at 0 WAIT words >>= λ waits. ok (WaitLine waits)) BadLine parsed h in
+    let n = went_on (numbers_at 0 WAIT words) (λ waits. ok (WaitLine waits)) parsed t.1 in
     let all = numbers_spelt 0 WAIT words n.0 (omega arith) n.1 in
-    subst E (ok_is (WaitLine n.0) said n.2) ((all.0, λ k d l. (all.1 k d l).1), refl)
+    subst E (ok_is (WaitLine n.0) parsed n.2) ((all.0, λ k d l. (all.1 k d l).1), refl)
 
-way_spelt : (words : List (List ℕ)) (said : PlanLine) → way_at words ≡ ok said → IsRest words said × (first_of said ≡ codes "way")
+way_spelt : (words : List (List ℕ)) (parsed : PlanLine) → way_at words ≡ ok parsed → IsRest words parsed × (first_of parsed ≡ codes "way")
 unfolding way_at
-way_spelt words said h =
+way_spelt words parsed h =
     let E : PlanLine → Type 0 = λ s. IsRest words s × (first_of s ≡ codes "way") in
-    let w = went_on (first_word words) (λ w. if is_name w.0 && list_all is_number w.1 then (numbers_at 1 LAST_JOB_ID w.1 >>= λ jobs. ok (WayLine w.0 jobs)) else Err BadLine) said h in
-    let t = taken (is_name w.0.0 && list_all is_number w.0.1) (numbers_at 1 LAST_JOB_ID w.0.1 >>= λ jobs. ok (WayLine w.0.0 jobs)) BadLine said w.2 in
+    let w = went_on (first_word words) (λ w. if is_name w.0 && list_all is_number w.1 then (numbers_at 1 LAST_JOB_ID w.1 >>= λ jobs. ok (WayLine w.0 jobs)) else Err BadLine) parsed h in
+    let t = taken (is_name w.0.0 && list_all is_number w.0.1) (numbers_at 1 LAST_JOB_ID w.0.1 >>= λ jobs. ok (WayLine w.0.0 jobs)) BadLine parsed w.2 in
     let b : (is_name w.0.0 ≡ true) × (list_all is_number w.0.1 ≡ true) = and_parts (is_name w.0.0) (list_all is_number w.0.1) t.0 in
-    let n = went_on (numbers_at 1 LAST_JOB_ID w.0.1) (λ jobs. ok (WayLine w.0.0 jobs)) said t.1 in
+    let n = went_on (numbers_at 1 LAST_JOB_ID w.0.1) (λ jobs. ok (WayLine w.0.0 jobs)) parsed t.1 in
     let all = numbers_spelt 1 LAST_JOB_ID w.0.1 n.0 (omega arith) n.1 in
-    subst E (ok_is (WayLine w.0.0 n.0) said n.2) ((split words w.0 w.1 ∙ ap (λ xs. w.0.0 ∷ xs) all.0, (b.0, all.1)), refl)
+    subst E (ok_is (WayLine w.0.0 n.0) parsed n.2) ((split words w.0 w.1 ∙ ap (λ xs. w.0.0 ∷ xs) all.0, (b.0, all.1)), refl)
 
-total_spelt : (words : List (List ℕ)) (said : PlanLine) → total_at words ≡ ok said → IsRest words said × (first_of said ≡ codes "total")
+total_spelt : (words : List (List ℕ)) (parsed : PlanLine) → total_at words ≡ ok parsed → IsRest words parsed × (first_of parsed ≡ codes "total")
 unfolding total_at
-total_spelt words said h =
+total_spelt words parsed h =
     let E : PlanLine → Type 0 = λ s. IsRest words s × (first_of s ≡ codes "total") in
-    let w = went_on (only_word words) (λ total. number_at 0 AMOUNT total >>= λ n. ok (TotalLine n)) said h in
-    let n = went_on (number_at 0 AMOUNT w.0) (λ n. ok (TotalLine n)) said w.2 in
+    let w = went_on (only_word words) (λ total. number_at 0 AMOUNT total >>= λ n. ok (TotalLine n)) parsed h in
+    let n = went_on (number_at 0 AMOUNT w.0) (λ n. ok (TotalLine n)) parsed w.2 in
     let s = number_spelt 0 AMOUNT w.0 n.0 (omega arith) n.1 in
-    subst E (ok_is (TotalLine n.0) said n.2) ((one words w.0 w.1 ∙ ap (λ x. x ∷ []) s.0, s.2), refl)
+    subst E (ok_is (TotalLine n.0) parsed n.2) ((one words w.0 w.1 ∙ ap (λ x. x ∷ []) s.0, s.2), refl)
 
-job_prices_spelt : (words : List (List ℕ)) (said : PlanLine) → job_prices_at words ≡ ok said → IsRest words said × (first_of said ≡ codes "jobprices")
+job_prices_spelt : (words : List (List ℕ)) (parsed : PlanLine) → job_prices_at words ≡ ok parsed → IsRest words parsed × (first_of parsed ≡ codes "jobprices")
 unfolding job_prices_at
-job_prices_spelt words said h =
+job_prices_spelt words parsed h =
     let E : PlanLine → Type 0 = λ s. IsRest words s × (first_of s ≡ codes "jobprices") in
-    let t = taken (list_all is_price words) (prices_at words >>= λ prices. ok (JobPricesLine prices)) BadLine said h in
-    let n = went_on (prices_at words) (λ prices. ok (JobPricesLine prices)) said t.1 in
+    let t = taken (list_all is_price words) (prices_at words >>= λ prices. ok (JobPricesLine prices)) BadLine parsed h in
+    let n = went_on (prices_at words) (λ prices. ok (JobPricesLine prices)) parsed t.1 in
     let all = prices_spelt words n.0 n.1 in
-    subst E (ok_is (JobPricesLine n.0) said n.2) ((all.0, all.1), refl)
+    subst E (ok_is (JobPricesLine n.0) parsed n.2) ((all.0, all.1), refl)
 
-place_prices_spelt : (words : List (List ℕ)) (said : PlanLine) → place_prices_at words ≡ ok said → IsRest words said × (first_of said ≡ codes "placeprices")
+place_prices_spelt : (words : List (List ℕ)) (parsed : PlanLine) → place_prices_at words ≡ ok parsed → IsRest words parsed × (first_of parsed ≡ codes "placeprices")
 unfolding place_prices_at
-place_prices_spelt words said h =
+place_prices_spelt words parsed h =
     let E : PlanLine → Type 0 = λ s. IsRest words s × (first_of s ≡ codes "placeprices") in
-    let w = went_on (first_word words) (λ w. if is_name w.0 && list_all is_price w.1 then (prices_at w.1 >>= λ prices. ok (PlacePricesLine w.0 prices)) else Err BadLine) said h in
-    let t = taken (is_name w.0.0 && list_all is_price w.0.1) (prices_at w.0.1 >>= λ prices. ok (PlacePricesLine w.0.0 prices)) BadLine said w.2 in
+    let w = went_on (first_word words) (λ w. if is_name w.0 && list_all is_price w.1 then (prices_at w.1 >>= λ prices. ok (PlacePricesLine w.0 prices)) else Err BadLine) parsed h in
+    let t = taken (is_name w.0.0 && list_all is_price w.0.1) (prices_at w.0.1 >>= λ prices. ok (PlacePricesLine w.0.0 prices)) BadLine parsed w.2 in
     let b : (is_name w.0.0 ≡ true) × (list_all is_price w.0.1 ≡ true) = and_parts (is_name w.0.0) (list_all is_price w.0.1) t.0 in
-    let n = went_on (prices_at w.0.1) (λ prices. ok (PlacePricesLine w.0.0 prices)) said t.1 in
+    let n = went_on (prices_at w.0.1) (λ prices. ok (PlacePricesLine w.0.0 prices)) parsed t.1 in
     let all = prices_spelt w.0.1 n.0 n.1 in
-    subst E (ok_is (PlacePricesLine w.0.0 n.0) said n.2) ((split words w.0 w.1 ∙ ap (λ xs. w.0.0 ∷ xs) all.0, (b.0, all.1)), refl)
+    subst E (ok_is (PlacePricesLine w.0.0 n.0) parsed n.2) ((split words w.0 w.1 ∙ ap (λ xs. w.0.0 ∷ xs) all.0, (b.0, all.1)), refl)
 
-stranded_spelt : (words : List (List ℕ)) (said : PlanLine) → stranded_at words ≡ ok said → IsRest words said × (first_of said ≡ codes "stranded")
+stranded_spelt : (words : List (List ℕ)) (parsed : PlanLine) → stranded_at words ≡ ok parsed → IsRest words parsed × (first_of parsed ≡ codes "stranded")
 unfolding stranded_at
-stranded_spelt words said h =
+stranded_spelt words parsed h =
     let E : PlanLine → Type 0 = λ s. IsRest words s × (first_of s ≡ codes "stranded") in
-    let w = went_on (first_word words) (λ w. only_word w.1 >>= λ word. (cause_at word >>= λ cause. (number_at 1 LAST_JOB_ID w.0 >>= λ id. ok (StrandedLine (record { job = id; cause = cause }))))) said h in
-    let o = went_on (only_word w.0.1) (λ word. cause_at word >>= λ cause. (number_at 1 LAST_JOB_ID w.0.0 >>= λ id. ok (StrandedLine (record { job = id; cause = cause })))) said w.2 in
-    let c = went_on (cause_at o.0) (λ cause. number_at 1 LAST_JOB_ID w.0.0 >>= λ id. ok (StrandedLine (record { job = id; cause = cause }))) said o.2 in
-    let i = went_on (number_at 1 LAST_JOB_ID w.0.0) (λ id. ok (StrandedLine (record { job = id; cause = c.0 }))) said c.2 in
+    let w = went_on (first_word words) (λ w. only_word w.1 >>= λ word. (cause_at word >>= λ cause. (number_at 1 LAST_JOB_ID w.0 >>= λ id. ok (StrandedLine (record { job = id; cause = cause }))))) parsed h in
+    let o = went_on (only_word w.0.1) (λ word. cause_at word >>= λ cause. (number_at 1 LAST_JOB_ID w.0.0 >>= λ id. ok (StrandedLine (record { job = id; cause = cause })))) parsed w.2 in
+    let c = went_on (cause_at o.0) (λ cause. number_at 1 LAST_JOB_ID w.0.0 >>= λ id. ok (StrandedLine (record { job = id; cause = cause }))) parsed o.2 in
+    let i = went_on (number_at 1 LAST_JOB_ID w.0.0) (λ id. ok (StrandedLine (record { job = id; cause = c.0 }))) parsed c.2 in
     let s = number_spelt 1 LAST_JOB_ID w.0.0 i.0 (omega arith) i.1 in
     let rest : w.0.1 ≡ cause_word c.0 ∷ [] = one w.0.1 o.0 o.1 ∙ ap (λ x. x ∷ []) (cause_spelt o.0 c.0 c.1) in
-    subst E (ok_is (StrandedLine (record { job = i.0; cause = c.0 })) said i.2) ((split words w.0 w.1 ∙ ap (λ x. x ∷ w.0.1) s.0 ∙ ap (λ xs. decimal i.0 ∷ xs) rest, (s.1, s.2)), refl)
+    subst E (ok_is (StrandedLine (record { job = i.0; cause = c.0 })) parsed i.2) ((split words w.0 w.1 ∙ ap (λ x. x ∷ w.0.1) s.0 ∙ ap (λ xs. decimal i.0 ∷ xs) rest, (s.1, s.2)), refl)
 
 -- a line that begins with this word
-begun : (first name : List ℕ) (words : List (List ℕ)) (said : PlanLine) (r q : Result PlanLine TextFault) → (if bytes_eq first name then r else q) ≡ ok said
-    → (r ≡ ok said → IsRest words said × (first_of said ≡ name)) → (q ≡ ok said → IsRest words said × (first_of said ≡ first)) → IsRest words said × (first_of said ≡ first)
-begun first name words said r q h here later = elim (either (bytes_eq first name) r q said h) [
+begun : (first name : List ℕ) (words : List (List ℕ)) (parsed : PlanLine) (r q : Result PlanLine TextFault) → (if bytes_eq first name then r else q) ≡ ok parsed
+    → (r ≡ ok parsed → IsRest words parsed × (first_of parsed ≡ name)) → (q ≡ ok parsed → IsRest words parsed × (first_of parsed ≡ first)) → IsRest words parsed × (first_of parsed ≡ first)
+begun first name words parsed r q h here later = elim (either (bytes_eq first name) r q parsed h) [
   | inl named ↦ let s = here named.1 in (s.0, s.1 ∙ sym (same_bytes first name named.0))
   | inr other ↦ later other.1
 ]
 
-alone_spelt : (line said : PlanLine) (words : List (List ℕ)) → rest_of line ≡ [] → SaidInRange line → alone_at line words ≡ ok said → IsRest words said × (first_of said ≡ first_of line)
-alone_spelt line said words empty range h =
-    let n = none line said words h in
+alone_spelt : (line parsed : PlanLine) (words : List (List ℕ)) → rest_of line ≡ [] → ParsedInRange line → alone_at line words ≡ ok parsed → IsRest words parsed × (first_of parsed ≡ first_of line)
+alone_spelt line parsed words empty range h =
+    let n = none line parsed words h in
     subst (λ s. IsRest words s × (first_of s ≡ first_of line)) n.1 ((n.0 ∙ sym empty, range), refl)
 
-line_of_spelt : (first : List ℕ) (words : List (List ℕ)) (said : PlanLine) → line_of first words ≡ ok said → IsRest words said × (first_of said ≡ first)
+line_of_spelt : (first : List ℕ) (words : List (List ℕ)) (parsed : PlanLine) → line_of first words ≡ ok parsed → IsRest words parsed × (first_of parsed ≡ first)
 unfolding line_of
-line_of_spelt first words said h =
-    begun first (codes "plan") words said (alone_at HeadLine words) _ h (alone_spelt HeadLine said words refl tt)
-    (λ h1. begun first (codes "device") words said (device_at words) _ h1 (device_spelt words said)
-    (λ h2. begun first (codes "class") words said (class_at words) _ h2 (class_spelt words said)
-    (λ h3. begun first (codes "job") words said (job_at words) _ h3 (job_spelt words said)
-    (λ h4. begun first (codes "wait") words said (wait_at words) _ h4 (wait_spelt words said)
-    (λ h5. begun first (codes "way") words said (way_at words) _ h5 (way_spelt words said)
-    (λ h6. begun first (codes "total") words said (total_at words) _ h6 (total_spelt words said)
-    (λ h7. begun first (codes "jobprices") words said (job_prices_at words) _ h7 (job_prices_spelt words said)
-    (λ h8. begun first (codes "placeprices") words said (place_prices_at words) _ h8 (place_prices_spelt words said)
-    (λ h9. begun first (codes "stranded") words said (stranded_at words) _ h9 (stranded_spelt words said)
-    (λ h10. begun first (codes "end") words said (alone_at EndLine words) (Err BadLine) h10 (alone_spelt EndLine said words refl tt)
+line_of_spelt first words parsed h =
+    begun first (codes "plan") words parsed (alone_at HeadLine words) _ h (alone_spelt HeadLine parsed words refl tt)
+    (λ h1. begun first (codes "device") words parsed (device_at words) _ h1 (device_spelt words parsed)
+    (λ h2. begun first (codes "class") words parsed (class_at words) _ h2 (class_spelt words parsed)
+    (λ h3. begun first (codes "job") words parsed (job_at words) _ h3 (job_spelt words parsed)
+    (λ h4. begun first (codes "wait") words parsed (wait_at words) _ h4 (wait_spelt words parsed)
+    (λ h5. begun first (codes "way") words parsed (way_at words) _ h5 (way_spelt words parsed)
+    (λ h6. begun first (codes "total") words parsed (total_at words) _ h6 (total_spelt words parsed)
+    (λ h7. begun first (codes "jobprices") words parsed (job_prices_at words) _ h7 (job_prices_spelt words parsed)
+    (λ h8. begun first (codes "placeprices") words parsed (place_prices_at words) _ h8 (place_prices_spelt words parsed)
+    (λ h9. begun first (codes "stranded") words parsed (stranded_at words) _ h9 (stranded_spelt words parsed)
+    (λ h10. begun first (codes "end") words parsed (alone_at EndLine words) (Err BadLine) h10 (alone_spelt EndLine parsed words refl tt)
     (λ h11. absurd (cc))))))))))))
 
 -- A line that is read is the line of its content, which is in range.
-pub line_spelt : (line : List ℕ) (said : PlanLine) → line_at (words_of line) ≡ ok said → (line ++ feed ≡ line_text said) × SaidInRange said
-line_spelt line said h =
-    let w = went_on (first_word (words_of line)) (λ w. line_of w.0 w.1) said h in
-    let s = line_of_spelt w.0.0 w.0.1 said w.2 in
-    let whole : line ≡ body_of said = words_joined line w.0.0 w.0.1 (split (words_of line) w.0 w.1) ∙ ap (λ first. first ++ spaced w.0.1) (sym s.1) ∙ ap (λ words. first_of said ++ spaced words) s.0.0 in
-    (ap (λ l. l ++ feed) whole ∙ sym (line_is said), s.0.1)
+pub line_spelt : (line : List ℕ) (parsed : PlanLine) → line_at (words_of line) ≡ ok parsed → (line ++ feed ≡ line_text parsed) × ParsedInRange parsed
+line_spelt line parsed h =
+    let w = went_on (first_word (words_of line)) (λ w. line_of w.0 w.1) parsed h in
+    let s = line_of_spelt w.0.0 w.0.1 parsed w.2 in
+    let whole : line ≡ body_of parsed = words_joined line w.0.0 w.0.1 (split (words_of line) w.0 w.1) ∙ ap (λ first. first ++ spaced w.0.1) (sym s.1) ∙ ap (λ words. first_of parsed ++ spaced words) s.0.0 in
+    (ap (λ l. l ++ feed) whole ∙ sym (line_is parsed), s.0.1)

@@ -28,18 +28,18 @@ pub data PlanLine : Type 0 where
   EndLine : PlanLine
 
 -- the content of a line that was read
-abbrev pub said_by : Line → PlanLine
-said_by lines.Plan = HeadLine
-said_by (lines.Device name) = DeviceLine name
-said_by (lines.Class priority) = ClassLine priority
-said_by (lines.Job id times) = JobLine id times.items
-said_by (lines.Wait waits) = WaitLine waits.items
-said_by (lines.Way device jobs) = WayLine device jobs.items
-said_by (lines.Total total) = TotalLine total
-said_by (lines.JobPrices prices) = JobPricesLine prices.items
-said_by (lines.PlacePrices device prices) = PlacePricesLine device prices.items
-said_by (lines.Stranded stranded) = StrandedLine stranded
-said_by lines.End = EndLine
+abbrev pub plan_line_of : Line → PlanLine
+plan_line_of lines.Plan = HeadLine
+plan_line_of (lines.Device name) = DeviceLine name
+plan_line_of (lines.Class priority) = ClassLine priority
+plan_line_of (lines.Job id times) = JobLine id times.items
+plan_line_of (lines.Wait waits) = WaitLine waits.items
+plan_line_of (lines.Way device jobs) = WayLine device jobs.items
+plan_line_of (lines.Total total) = TotalLine total
+plan_line_of (lines.JobPrices prices) = JobPricesLine prices.items
+plan_line_of (lines.PlacePrices device prices) = PlacePricesLine device prices.items
+plan_line_of (lines.Stranded stranded) = StrandedLine stranded
+plan_line_of lines.End = EndLine
 
 -- the words after the first word of each line; an empty word is neither a number nor a name
 

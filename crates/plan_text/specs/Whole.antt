@@ -12,7 +12,7 @@ use Rattle.plan_text.specs.Steps.{DraftRecord, opened_at, is_at, next}
 
 -- a line is checked by itself, and then in its place; no line may follow `end`
 unfoldable pub line_next : DraftRecord → List ℕ → Result DraftRecord TextFault
-line_next draft line = if is_at draft stages.Ended then Err BadLine else (line_at (words_of line) >>= λ said. next draft said)
+line_next draft line = if is_at draft stages.Ended then Err BadLine else (line_at (words_of line) >>= λ parsed. next draft parsed)
 
 abbrev pub lines_next : DraftRecord → List (List ℕ) → Result DraftRecord TextFault
 lines_next draft [] = Ok draft

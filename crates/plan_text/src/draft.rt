@@ -1,7 +1,7 @@
 //! The state of a reader of a plan's text.
 ghost use Rattle.std.specs.Prelude.{◌≡◌, ◌==◌, ◌&&◌};
 ghost use Rattle.plan_problem.specs.Class.{IsClass};
-ghost use Rattle.plan_text.specs.Line.{said_by};
+ghost use Rattle.plan_text.specs.Line.{plan_line_of};
 ghost use Rattle.plan_text.specs.Steps.{Leaves, draft_record, opened_of, problem_of, is_named, may_have, next, plan_next, device_next, closed, opened_kept, class_opened, class_next, job_next, wait_next, way_next, total_next, job_prices_next, place_prices_next, classes_over, stranded_added, stranded_next, end_next};
 
 use crate::fault::{ReadError, TextFault};
@@ -33,7 +33,7 @@ pub(crate) struct Draft {
 impl Draft {
     /// Takes the step of a line.
     pub(crate) fn take(&mut self, alloc: Global, line: Line) -> Result<(), ReadError>
-        ensures { Leaves result (draft_record self.new) (next (draft_record self.old) (said_by line)) }
+        ensures { Leaves result (draft_record self.new) (next (draft_record self.old) (plan_line_of line)) }
     {
         match line {
             Line::Plan => self.take_plan(),

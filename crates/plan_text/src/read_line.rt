@@ -1,7 +1,7 @@
 //! The content of a line.
 ghost use Rattle.std.specs.Prelude.{◌≡◌, map};
 ghost use Rattle.plan_text.specs.Reading.{Gives};
-ghost use Rattle.plan_text.specs.Line.{said_by, alone_at, device_at, class_at, job_at, wait_at, way_at, total_at, job_prices_at, place_prices_at, stranded_at, line_of, line_at};
+ghost use Rattle.plan_text.specs.Line.{plan_line_of, alone_at, device_at, class_at, job_at, wait_at, way_at, total_at, job_prices_at, place_prices_at, stranded_at, line_of, line_at};
 
 use crate::cut::{first_word, only_word};
 use crate::fault::{ReadError, TextFault};
@@ -17,7 +17,7 @@ use text::is_number;
 
 /// Reads the line of these words.
 pub(crate) fn read_line(alloc: Global, words: &[&[u8]]) -> Result<Line, ReadError>
-    ensures { Gives said_by result (line_at (map (λ word. word.now) words.now)) }
+    ensures { Gives plan_line_of result (line_at (map (λ word. word.now) words.now)) }
 {
     let (first, words) = first_word(words)?;
     read_line_of(alloc, first, words)
@@ -26,7 +26,7 @@ pub(crate) fn read_line(alloc: Global, words: &[&[u8]]) -> Result<Line, ReadErro
 /// Reads a line by its first word.
 #[tactic(auto, unfolding(crate::specs::Line::line_of))]
 fn read_line_of(alloc: Global, first: &[u8], words: &[&[u8]]) -> Result<Line, ReadError>
-    ensures { Gives said_by result (line_of first.now (map (λ word. word.now) words.now)) }
+    ensures { Gives plan_line_of result (line_of first.now (map (λ word. word.now) words.now)) }
 {
     if first == b"plan".as_slice() {
         alone(Line::Plan, words)
@@ -64,7 +64,7 @@ fn bad_line() -> Result<Line, ReadError>
 /// Reads a line of one word.
 #[tactic(auto, using(crate::proofs::Words::alone, crate::proofs::Words::not_alone))]
 fn alone(line: Line, words: &[&[u8]]) -> Result<Line, ReadError>
-    ensures { Gives said_by result (alone_at (said_by line) (map (λ word. word.now) words.now)) }
+    ensures { Gives plan_line_of result (alone_at (plan_line_of line) (map (λ word. word.now) words.now)) }
 {
     if !words.is_empty() {
         return Err(ReadError::Fault(TextFault::BadLine));
@@ -74,7 +74,7 @@ fn alone(line: Line, words: &[&[u8]]) -> Result<Line, ReadError>
 
 #[tactic(auto, unfolding(crate::specs::Line::device_at))]
 fn device(alloc: Global, words: &[&[u8]]) -> Result<Line, ReadError>
-    ensures { Gives said_by result (device_at (map (λ word. word.now) words.now)) }
+    ensures { Gives plan_line_of result (device_at (map (λ word. word.now) words.now)) }
 {
     let name = only_word(words)?;
     if !is_name(name) {
@@ -85,7 +85,7 @@ fn device(alloc: Global, words: &[&[u8]]) -> Result<Line, ReadError>
 
 #[tactic(auto, unfolding(crate::specs::Line::class_at))]
 fn class(words: &[&[u8]]) -> Result<Line, ReadError>
-    ensures { Gives said_by result (class_at (map (λ word. word.now) words.now)) }
+    ensures { Gives plan_line_of result (class_at (map (λ word. word.now) words.now)) }
 {
     let word = only_word(words)?;
     let level = read_number(word, 1, u64::from(Limits::HIGHEST_PRIORITY))?;
@@ -97,7 +97,7 @@ fn class(words: &[&[u8]]) -> Result<Line, ReadError>
 
 #[tactic(auto, unfolding(crate::specs::Line::job_at))]
 fn job(alloc: Global, words: &[&[u8]]) -> Result<Line, ReadError>
-    ensures { Gives said_by result (job_at (map (λ word. word.now) words.now)) }
+    ensures { Gives plan_line_of result (job_at (map (λ word. word.now) words.now)) }
 {
     let (first, times) = first_word(words)?;
     if !is_number(first) || !are_entries(times) {
@@ -109,7 +109,7 @@ fn job(alloc: Global, words: &[&[u8]]) -> Result<Line, ReadError>
 
 #[tactic(auto, unfolding(crate::specs::Line::wait_at))]
 fn wait(alloc: Global, words: &[&[u8]]) -> Result<Line, ReadError>
-    ensures { Gives said_by result (wait_at (map (λ word. word.now) words.now)) }
+    ensures { Gives plan_line_of result (wait_at (map (λ word. word.now) words.now)) }
 {
     if !are_numbers(words) {
         return Err(ReadError::Fault(TextFault::BadLine));
@@ -119,7 +119,7 @@ fn wait(alloc: Global, words: &[&[u8]]) -> Result<Line, ReadError>
 
 #[tactic(auto, unfolding(crate::specs::Line::way_at))]
 fn way(alloc: Global, words: &[&[u8]]) -> Result<Line, ReadError>
-    ensures { Gives said_by result (way_at (map (λ word. word.now) words.now)) }
+    ensures { Gives plan_line_of result (way_at (map (λ word. word.now) words.now)) }
 {
     let (device, jobs) = first_word(words)?;
     if !is_name(device) || !are_numbers(jobs) {
@@ -131,7 +131,7 @@ fn way(alloc: Global, words: &[&[u8]]) -> Result<Line, ReadError>
 
 #[tactic(auto, unfolding(crate::specs::Line::total_at))]
 fn total(words: &[&[u8]]) -> Result<Line, ReadError>
-    ensures { Gives said_by result (total_at (map (λ word. word.now) words.now)) }
+    ensures { Gives plan_line_of result (total_at (map (λ word. word.now) words.now)) }
 {
     let word = only_word(words)?;
     Ok(Line::Total(read_number(word, 0, Limits::AMOUNT)?))
@@ -139,7 +139,7 @@ fn total(words: &[&[u8]]) -> Result<Line, ReadError>
 
 #[tactic(auto, unfolding(crate::specs::Line::job_prices_at))]
 fn job_prices(alloc: Global, words: &[&[u8]]) -> Result<Line, ReadError>
-    ensures { Gives said_by result (job_prices_at (map (λ word. word.now) words.now)) }
+    ensures { Gives plan_line_of result (job_prices_at (map (λ word. word.now) words.now)) }
 {
     if !are_prices(words) {
         return Err(ReadError::Fault(TextFault::BadLine));
@@ -149,7 +149,7 @@ fn job_prices(alloc: Global, words: &[&[u8]]) -> Result<Line, ReadError>
 
 #[tactic(auto, unfolding(crate::specs::Line::place_prices_at))]
 fn place_prices(alloc: Global, words: &[&[u8]]) -> Result<Line, ReadError>
-    ensures { Gives said_by result (place_prices_at (map (λ word. word.now) words.now)) }
+    ensures { Gives plan_line_of result (place_prices_at (map (λ word. word.now) words.now)) }
 {
     let (device, prices) = first_word(words)?;
     if !is_name(device) || !are_prices(prices) {
@@ -161,7 +161,7 @@ fn place_prices(alloc: Global, words: &[&[u8]]) -> Result<Line, ReadError>
 
 #[tactic(auto, unfolding(crate::specs::Line::stranded_at))]
 fn stranded(words: &[&[u8]]) -> Result<Line, ReadError>
-    ensures { Gives said_by result (stranded_at (map (λ word. word.now) words.now)) }
+    ensures { Gives plan_line_of result (stranded_at (map (λ word. word.now) words.now)) }
 {
     let (first, words) = first_word(words)?;
     let word = only_word(words)?;

@@ -10,7 +10,7 @@ use std::alloc::{AllocError, Global};
 #[derive(Drop)]
 pub enum DayFault {
     /// The exit status, and the reason as a sentence, which begins with the name of the day's file.
-    Said(ExitStatus, String),
+    Reported(ExitStatus, String),
     OutOfMemory,
 }
 
@@ -22,9 +22,9 @@ impl From<AllocError> for DayFault {
 
 impl DayFault {
     /// The fault with a sentence.
-    fn said(status: ExitStatus, sentence: Result<String, AllocError>) -> DayFault {
+    fn reported(status: ExitStatus, sentence: Result<String, AllocError>) -> DayFault {
         match sentence {
-            Ok(sentence) => DayFault::Said(status, sentence),
+            Ok(sentence) => DayFault::Reported(status, sentence),
             Err(_) => DayFault::OutOfMemory,
         }
     }
@@ -34,7 +34,7 @@ impl DayFault {
         let sentence = format!(in alloc;
             "{file}: this is no recorded day: the line after \".\" isn't recorded and a number"
         );
-        DayFault::said(ExitStatus::Refused, sentence)
+        DayFault::reported(ExitStatus::Refused, sentence)
     }
 
     /// The file continues another.
@@ -42,13 +42,13 @@ impl DayFault {
         let sentence = format!(in alloc;
             "{file}: this continues another file, which its first line names: play both as one, the earlier first"
         );
-        DayFault::said(ExitStatus::Refused, sentence)
+        DayFault::reported(ExitStatus::Refused, sentence)
     }
 
     /// The file has no line after the settings.
     pub(crate) fn no_stop(alloc: Global, file: &str) -> DayFault {
         let sentence = format!(in alloc; "{file}: no line after the settings is \".\" alone");
-        DayFault::said(ExitStatus::Refused, sentence)
+        DayFault::reported(ExitStatus::Refused, sentence)
     }
 
     /// The line of a number isn't a line of a recording.
@@ -56,7 +56,7 @@ impl DayFault {
         let sentence = format!(in alloc;
             "{file}: line {number}: this is no line of a recorded day"
         );
-        DayFault::said(ExitStatus::Refused, sentence)
+        DayFault::reported(ExitStatus::Refused, sentence)
     }
 
     /// Memory was refused to the server in the turn with the line of a number.
@@ -64,7 +64,7 @@ impl DayFault {
         let sentence = format!(in alloc;
             "{file}: line {number}: memory was refused to the server here, and what follows isn't played"
         );
-        DayFault::said(ExitStatus::No, sentence)
+        DayFault::reported(ExitStatus::No, sentence)
     }
 
     /// In the turn that the line of a number ends, the server makes another call than the recorded one.
@@ -72,7 +72,7 @@ impl DayFault {
         let sentence = format!(in alloc;
             "{file}: line {number}: in this turn the server does something else than was recorded"
         );
-        DayFault::said(ExitStatus::No, sentence)
+        DayFault::reported(ExitStatus::No, sentence)
     }
 
     /// The settings of a file are refused.
@@ -81,8 +81,8 @@ impl DayFault {
             return DayFault::OutOfMemory;
         }
         match explain(alloc, file, text) {
-            Ok(Some(sentence)) => DayFault::Said(ExitStatus::Refused, sentence),
-            Ok(None) => DayFault::said(
+            Ok(Some(sentence)) => DayFault::Reported(ExitStatus::Refused, sentence),
+            Ok(None) => DayFault::reported(
                 ExitStatus::Refused,
                 format!(in alloc; "{file}: the settings are refused"),
             ),

@@ -42,7 +42,7 @@ pub struct Played {
 #[derive(Drop)]
 enum EarlyEnd {
     /// The exit status, and the reason as a sentence.
-    Said(ExitStatus, String),
+    Reported(ExitStatus, String),
     /// The lines differ; the difference was printed.
     Differs,
     OutOfMemory,
@@ -68,7 +68,7 @@ impl From<io::Error> for EarlyEnd {
 impl From<DayFault> for EarlyEnd {
     fn from(fault: DayFault) -> EarlyEnd {
         match fault {
-            DayFault::Said(status, sentence) => EarlyEnd::Said(status, sentence),
+            DayFault::Reported(status, sentence) => EarlyEnd::Reported(status, sentence),
             DayFault::OutOfMemory => EarlyEnd::OutOfMemory,
         }
     }
@@ -306,7 +306,7 @@ pub fn play<R: Read, W: Write>(
 ) -> Played {
     let (status, objection) = match play_day(alloc, file, reader, writer, shows) {
         Ok(()) => (ExitStatus::Done, None),
-        Err(EarlyEnd::Said(status, sentence)) => (status, Some(sentence)),
+        Err(EarlyEnd::Reported(status, sentence)) => (status, Some(sentence)),
         Err(EarlyEnd::Differs) => (ExitStatus::No, None),
         Err(EarlyEnd::OutOfMemory) => (
             ExitStatus::Failed,

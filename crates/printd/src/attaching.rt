@@ -42,7 +42,7 @@ pub(crate) fn run_attach(
 
 /// Reports the invalid word, and returns the exit status.
 fn refuse(rt: &HostRuntime, fault: WordFault, words: ConfigWords<'_>) -> ExitStatus {
-    let said = match fault {
+    let sentence = match fault {
         WordFault::Name => say(
             rt,
             "--name",
@@ -65,7 +65,7 @@ fn refuse(rt: &HostRuntime, fault: WordFault, words: ConfigWords<'_>) -> ExitSta
         WordFault::Pjl => say(rt, "--to", words.to, "with --pjl, socket://HOST[:PORT]"),
         WordFault::OutOfMemory => return cannot(rt, "attach a printer", out_of_memory()),
     };
-    match said {
+    match sentence {
         Ok(()) => ExitStatus::Refused,
         Err(_) => ExitStatus::Failed,
     }

@@ -36,7 +36,7 @@ pub(crate) fn say<T: Display>(rt: &HostRuntime, what: &T) {
         return;
     };
     let line = Escaped(text.as_bytes());
-    let _said = eprintln!(rt; "printd: {line}");
+    let _printed = eprintln!(rt; "printd: {line}");
 }
 
 /// Reports in a line of standard error what failed and why, and returns the exit status. Writes nothing where
@@ -45,7 +45,7 @@ pub(crate) fn cannot(rt: &HostRuntime, what: &str, error: io::Error) -> ExitStat
     if error.kind() != ErrorKind::BrokenPipe {
         let reason = reason(&error);
         let what = Escaped(what.as_bytes());
-        let _said = match error.raw_os_error() {
+        let _printed = match error.raw_os_error() {
             Some(code) => {
                 eprintln!(rt; "printd: cannot {what}: {reason} (the system's error {code})")
             }

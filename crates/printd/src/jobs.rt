@@ -120,7 +120,7 @@ fn report(rt: &HostRuntime, name: &str, trouble: JobsFault) -> ExitStatus {
     match trouble {
         JobsFault::Read(error) => cannot_with(rt, "read", name, error),
         JobsFault::Day(DayFault::OutOfMemory) => cannot_with(rt, "play", name, out_of_memory()),
-        JobsFault::Day(DayFault::Said(status, sentence)) => {
+        JobsFault::Day(DayFault::Reported(status, sentence)) => {
             say(rt, &sentence);
             status
         }

@@ -56,7 +56,9 @@ pub(crate) fn failed<R: Read + Drop, W: Write + Drop>(
     }
     let name = spoken(name);
     if input.takes_too_many_reads() {
-        let _said = eprintln!(rt; "printd: cannot read {name}: it takes more than 1,048,576 reads");
+        let _printed = eprintln!(rt;
+            "printd: cannot read {name}: it takes more than 1,048,576 reads"
+        );
         return ExitStatus::Failed;
     }
     match input.into_error() {

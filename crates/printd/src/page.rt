@@ -37,7 +37,7 @@ struct Reading<'a> {
 /// Reports the fault of a day, and returns the exit status.
 pub(crate) fn refused(rt: &HostRuntime, fault: &DayFault) -> ExitStatus {
     match fault {
-        DayFault::Said(status, sentence) => {
+        DayFault::Reported(status, sentence) => {
             say(rt, sentence);
             *status
         }
@@ -65,7 +65,7 @@ pub(crate) fn known_zone<'a>(
     match zone_of(database, text) {
         Some(zone) => Ok(zone),
         None => {
-            let _said = eprintln!(rt;
+            let _printed = eprintln!(rt;
                 "printd: the zone {text:?} is unknown: write a name of this system's time zones, as Europe/Berlin, or an offset, as +02:00"
             );
             Err(ExitStatus::Refused)
@@ -81,7 +81,7 @@ fn when_of(rt: &HostRuntime, text: Option<&str>) -> Result<Option<When>, ExitSta
     match When::of(text) {
         Some(when) => Ok(Some(when)),
         None => {
-            let _said = eprintln!(rt;
+            let _printed = eprintln!(rt;
                 "printd: {text:?} is no moment: write ms since the start, a clock time as 14:05, or a date with a time as 2026-11-29T14:05"
             );
             Err(ExitStatus::Refused)
@@ -186,7 +186,7 @@ impl<'a> Reading<'a> {
             Some(_) => Ok(Moment::start()),
             None if self.when.is_none() => Ok(Moment::start()),
             None => {
-                let _said = eprintln!(self.rt;
+                let _printed = eprintln!(self.rt;
                     "printd: the day has no clock before that: write the moment in ms since the start"
                 );
                 Err(ExitStatus::Refused)

@@ -82,7 +82,7 @@ pub(crate) fn written_trace(
         }),
         Ok(Written::Made { text, first }) => Ok(WrittenTrace { text, first }),
         Ok(Written::Bad(line)) => {
-            let _said = eprintln!(rt;
+            let _printed = eprintln!(rt;
                 "printd: {file}: line {line}: this is no line of a recorded day"
             );
             Err(ExitStatus::Refused)

@@ -68,8 +68,8 @@ fn advise(rt: &HostRuntime, file: &str, settings: &Settings) -> Result<(), ExitS
     let advice = or_no_memory_with(rt, "read", file, advice_on(rt.alloc(), settings))?;
     let file = Escaped(file.as_bytes());
     for one in &advice {
-        let said = eprintln!(rt; "printd: {file}: warning: {one}");
-        or_cannot(rt, "write to standard error", said)?;
+        let printed = eprintln!(rt; "printd: {file}: warning: {one}");
+        or_cannot(rt, "write to standard error", printed)?;
     }
     Ok(())
 }
@@ -83,11 +83,11 @@ fn judge(rt: &HostRuntime, file: &str) -> Result<ExitStatus, ExitStatus> {
 
 /// Reports that no printer is announced, and why, in a line of standard error. Returns the exit status.
 fn refuse_printer(rt: &HostRuntime, file: &str, printer: Option<&str>) -> ExitStatus {
-    let said = match printer {
+    let printed = match printer {
         Some(name) => eprintln!(rt; "printd: {file} has no printer \"{name}\""),
         None => eprintln!(rt; "printd: {file} has several printers: --printer NAME says which"),
     };
-    match said {
+    match printed {
         Ok(()) => ExitStatus::Refused,
         Err(error) => cannot(rt, "write to standard error", error),
     }

@@ -41,7 +41,7 @@ impl Watch for DayProgress<'_> {
         let hundredths = come.saturating_mul(100).checked_div(jobs).unwrap_or(0);
         if self.is_shown && hundredths != self.shown {
             self.shown = hundredths;
-            let _said = eprint!(self.rt; "\r\x1b[Kprintd: {name}: {come} of {jobs} jobs");
+            let _printed = eprint!(self.rt; "\r\x1b[Kprintd: {name}: {come} of {jobs} jobs");
         }
     }
 }
@@ -58,7 +58,7 @@ impl DayProgress<'_> {
     /// Clears the line of the progress.
     fn end(&self) {
         if self.is_shown {
-            let _said = eprint!(self.rt; "\r\x1b[K");
+            let _printed = eprint!(self.rt; "\r\x1b[K");
         }
     }
 }
@@ -126,7 +126,7 @@ fn refuse_list(rt: &HostRuntime, file: &str, error: &ListError) -> ExitStatus {
     if matches!(error, ListError::OutOfMemory) {
         return cannot(rt, PLAY, out_of_memory());
     }
-    let _said = eprintln!(rt; "printd: {file}: {error}");
+    let _printed = eprintln!(rt; "printd: {file}: {error}");
     ExitStatus::Refused
 }
 
@@ -147,10 +147,10 @@ fn report_unused(rt: &HostRuntime, file: &str, list: &JobList) {
     if let Ok(names) = names_in_line(rt, &list.ignored)
         && !names.is_empty()
     {
-        let _said = eprintln!(rt; "printd: {file}: ignored columns: {names}");
+        let _printed = eprintln!(rt; "printd: {file}: ignored columns: {names}");
     }
     if list.names_others {
-        let _said = eprintln!(rt;
+        let _printed = eprintln!(rt;
             "printd: {file}: the settings have one printer, which gets the jobs of all printers"
         );
     }

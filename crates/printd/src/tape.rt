@@ -182,7 +182,7 @@ impl<'a> TapeFiles<'a> {
         };
         let missing = !leads_to(self.rt, &name, file).unwrap_or(false);
         if missing && !self.missing {
-            let _said = eprintln!(self.rt;
+            let _printed = eprintln!(self.rt;
                 "printd: the recording {name} was moved or removed; the server records on to that file until midnight of UTC"
             );
         }
@@ -192,7 +192,7 @@ impl<'a> TapeFiles<'a> {
     /// Reports that the recording has ended, and why.
     fn say_ended(&self, error: io::Error) {
         let _status = cannot_with(self.rt, "record to", self.path, error);
-        let _said = eprintln!(self.rt; "printd: the recording has ended; the server goes on");
+        let _printed = eprintln!(self.rt; "printd: the recording has ended; the server goes on");
     }
 }
 

@@ -1,4 +1,4 @@
 pub mod Input
 pub mod ExitStatus
-pub mod Said
+pub mod Output
 pub mod RefusedSettings

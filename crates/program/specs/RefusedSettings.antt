@@ -3,7 +3,7 @@ use Rattle.std.specs.Prelude.{ℕ, ◌≡◌, ◌⊎◌, List, take, Option, Som
 use Rattle.std.specs.Io.KnownBytes.{Appends}
 use Rattle.settings_file.specs.Fault.{Fault, fault_words}
 use Rattle.settings_file.specs.Reading.{IsFaultOf}
-use Rattle.program.specs.Said.{ProgramOutput, refused_as}
+use Rattle.program.specs.Output.{ProgramOutput, refused_as}
 use Rattle.program.specs.declared.exit_status.ExitStatus.{ExitStatus}
 use Rattle.program.specs.declared.exit_status.ExitStatus.TheVariants as Ends
 

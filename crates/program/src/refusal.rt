@@ -1,6 +1,6 @@
 //! The line of a refusal.
 ghost use Rattle.std.specs.Prelude.{◌≡◌, IfOk};
-ghost use Rattle.program.specs.Said.{refused_as};
+ghost use Rattle.program.specs.Output.{refused_as};
 
 use std::alloc::{AllocError, Global};
 

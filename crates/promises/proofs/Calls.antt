@@ -25,7 +25,7 @@ beside polled notified u v hs same leads = subst (λ w. Leads (both polled notif
 made : {W N : Type 0} (polled : W → Poll → W → Type 0) (notified : N → Note → N → Type 0) (call : Call) (u v : W × N) (old new : EngineState) → ByContract polled notified call u old v new → Made polled notified call u v old new
 made polled notified (TakesTurn moment) u v old new it = record { action = Turned moment it.happenings; is_of = refl; leads = it.leads; reaches = it.reaches }
 made polled notified (Serves moment body) u v old new (answer, same, it) = record { action = Served_body moment body answer it.happenings; is_of = (refl, refl); leads = beside polled notified u v it.happenings same it.leads; reaches = it.reaches }
-made polled notified (Reports moment device said) u v old new (result, same, it) = record { action = Reported moment device said it.happenings; is_of = (refl, refl, refl); leads = beside polled notified u v it.happenings same it.leads; reaches = it.reaches }
+made polled notified (Reports moment device parsed) u v old new (result, same, it) = record { action = Reported moment device parsed it.happenings; is_of = (refl, refl, refl); leads = beside polled notified u v it.happenings same it.leads; reaches = it.reaches }
 made polled notified (Ticks moment) u v old new (result, same, it) = record { action = Ticked moment it.happenings; is_of = refl; leads = beside polled notified u v it.happenings same it.leads; reaches = it.reaches }
 
 -- the result of all calls

@@ -93,7 +93,7 @@ steady_mid : (e mid : Entry) → mid ≡ e → (mid.id ≡ e.id) × (mid.taken �
 steady_mid e mid is = (ap (λ (x : Entry). x.id) is, ap (λ (x : Entry). x.taken) is, ap (λ (x : Entry). x.due) is, ap (λ (x : Entry). x.read) is)
 
 comes_mid : (settings : ServerSettings) (progress : PeerRecord) (e : Entry) (comes : Step) (mid : Entry) → ItemComes settings progress e comes mid → (mid.id ≡ e.id) × (mid.taken ≡ e.taken) × (mid.due ≡ e.due) × (mid.read ≡ e.read)
-comes_mid settings (Http said closes body) e comes mid next = steady_progress e mid _ next.after
+comes_mid settings (Http parsed closes body) e comes mid next = steady_progress e mid _ next.after
 comes_mid settings (Queue items session) e comes mid (inl next) = steady_progress e mid _ next.after
 comes_mid settings (Queue items session) e comes mid (inr (inl next)) = steady_mid e mid next.after
 comes_mid settings (Queue items session) e comes mid (inr (inr next)) = steady_mid e mid next.1
@@ -821,7 +821,7 @@ body_comes moment body served c l hs l' a new (inr it) = carries_notifies (Refus
 carries_action : (action : Action) (c : Carried) (l l' : Ledger) → Agrees c l → AreNew c (happenings_of action) → DoesAction action l l' → Agrees (carried c (happenings_of action)) l'
 carries_action (Turned moment hs) c l l' a new it = carries_turn moment c l hs l' a new it
 carries_action (Served_body moment body answer hs) c l l' a new (served, same, it) = body_comes moment body served c l hs l' a new it
-carries_action (Reported moment device said hs) c l l' a new (what, same, it) = carries_unanswered moment (Is.Report device what) c l hs l' a new it
+carries_action (Reported moment device parsed hs) c l l' a new (what, same, it) = carries_unanswered moment (Is.Report device what) c l hs l' a new it
 carries_action (Ticked moment hs) c l l' a new it = carries_ticks moment c l hs l' a new it
 
 -- ---- traces

@@ -33,39 +33,39 @@ no_false is = cc
 
 -- ---- the order of elements
 
-none_prefix : (said later : List HttpElement) → is_none (said ++ later) ≡ true → is_none said ≡ true
+none_prefix : (parsed later : List HttpElement) → is_none (parsed ++ later) ≡ true → is_none parsed ≡ true
 none_prefix [] later is = refl
-none_prefix (one ∷ said) later is = is
+none_prefix (one ∷ parsed) later is = is
 
-ends_prefix : (t : Bool) (said later : List HttpElement) → (in_order Between (said ++ later) ≡ true → in_order Between said ≡ true) → (if t then is_none (said ++ later) else in_order Between (said ++ later)) ≡ true → (if t then is_none said else in_order Between said) ≡ true
-ends_prefix true said later prefix is = none_prefix said later is
-ends_prefix false said later prefix is = prefix is
+ends_prefix : (t : Bool) (parsed later : List HttpElement) → (in_order Between (parsed ++ later) ≡ true → in_order Between parsed ≡ true) → (if t then is_none (parsed ++ later) else in_order Between (parsed ++ later)) ≡ true → (if t then is_none parsed else in_order Between parsed) ≡ true
+ends_prefix true parsed later prefix is = none_prefix parsed later is
+ends_prefix false parsed later prefix is = prefix is
 
 -- a prefix of elements in order is in order
-order_prefix : (place : Place) (said later : List HttpElement) → in_order place (said ++ later) ≡ true → in_order place said ≡ true
+order_prefix : (place : Place) (parsed later : List HttpElement) → in_order place (parsed ++ later) ≡ true → in_order place parsed ≡ true
 order_prefix place [] later is = refl
-order_prefix Between (HasHead closes ∷ said) later is = order_prefix (Headed closes) said later is
-order_prefix Between (Invites ∷ said) later is = is
-order_prefix Between (HasByte byte ∷ said) later is = is
-order_prefix Between (EndsBody ∷ said) later is = is
-order_prefix Between (IsRefused refusal ∷ said) later is = none_prefix said later is
-order_prefix (Headed closes) (HasHead other ∷ said) later is = is
-order_prefix (Headed closes) (Invites ∷ said) later is = order_prefix (Within closes 0) said later is
-order_prefix (Headed closes) (HasByte byte ∷ said) later is = order_prefix (Within closes 1) said later is
-order_prefix (Headed closes) (EndsBody ∷ said) later is = ends_prefix (is_last closes 0) said later (order_prefix Between said later) is
-order_prefix (Headed closes) (IsRefused refusal ∷ said) later is = none_prefix said later is
-order_prefix (Within closes count) (HasHead other ∷ said) later is = is
-order_prefix (Within closes count) (Invites ∷ said) later is = is
-order_prefix (Within closes count) (HasByte byte ∷ said) later is = order_prefix (Within closes (count + 1)) said later is
-order_prefix (Within closes count) (EndsBody ∷ said) later is = ends_prefix (is_last closes count) said later (order_prefix Between said later) is
-order_prefix (Within closes count) (IsRefused refusal ∷ said) later is = none_prefix said later is
+order_prefix Between (HasHead closes ∷ parsed) later is = order_prefix (Headed closes) parsed later is
+order_prefix Between (Invites ∷ parsed) later is = is
+order_prefix Between (HasByte byte ∷ parsed) later is = is
+order_prefix Between (EndsBody ∷ parsed) later is = is
+order_prefix Between (IsRefused refusal ∷ parsed) later is = none_prefix parsed later is
+order_prefix (Headed closes) (HasHead other ∷ parsed) later is = is
+order_prefix (Headed closes) (Invites ∷ parsed) later is = order_prefix (Within closes 0) parsed later is
+order_prefix (Headed closes) (HasByte byte ∷ parsed) later is = order_prefix (Within closes 1) parsed later is
+order_prefix (Headed closes) (EndsBody ∷ parsed) later is = ends_prefix (is_last closes 0) parsed later (order_prefix Between parsed later) is
+order_prefix (Headed closes) (IsRefused refusal ∷ parsed) later is = none_prefix parsed later is
+order_prefix (Within closes count) (HasHead other ∷ parsed) later is = is
+order_prefix (Within closes count) (Invites ∷ parsed) later is = is
+order_prefix (Within closes count) (HasByte byte ∷ parsed) later is = order_prefix (Within closes (count + 1)) parsed later is
+order_prefix (Within closes count) (EndsBody ∷ parsed) later is = ends_prefix (is_last closes count) parsed later (order_prefix Between parsed later) is
+order_prefix (Within closes count) (IsRefused refusal ∷ parsed) later is = none_prefix parsed later is
 
 -- the first elements of a stream are in order
-first_ordered : ElementsInOrder → SomeParse → FirstStays → (stream : List ℕ) (said : List HttpElement) → ParsesFirst stream said → in_order Between said ≡ true
-first_ordered ordered some stays stream said first =
+first_ordered : ElementsInOrder → SomeParse → FirstStays → (stream : List ℕ) (parsed : List HttpElement) → ParsesFirst stream parsed → in_order Between parsed ≡ true
+first_ordered ordered some stays stream parsed first =
     let all = some stream in
-    let it = stays stream [] said all.0 first (subst (λ (bytes : List ℕ). Exchanges bytes all.0) (sym (append-nil stream)) all.1) in
-    order_prefix Between said it.0 (subst (λ (xs : List HttpElement). in_order Between xs ≡ true) it.1 (ordered stream all.0 all.1))
+    let it = stays stream [] parsed all.0 first (subst (λ (bytes : List ℕ). Exchanges bytes all.0) (sym (append-nil stream)) all.1) in
+    order_prefix Between parsed it.0 (subst (λ (xs : List HttpElement). in_order Between xs ≡ true) it.1 (ordered stream all.0 all.1))
 
 -- ---- where a client is
 
@@ -86,7 +86,7 @@ goes (Goes prefix) later = in_order (place_of prefix) later
 goes (Over prefix refusal) later = is_none later
 
 abbrev Leads : Mode → List HttpElement → Type 0
-Leads mode said = (later : List HttpElement) → in_order Between (said ++ later) ≡ goes mode later
+Leads mode parsed = (later : List HttpElement) → in_order Between (parsed ++ later) ≡ goes mode later
 
 -- the kept part of the prefix
 abbrev Keeps : Prefix → Bool → List ℕ → Type 0
@@ -105,8 +105,8 @@ abbrev due_mode : Mode → List ℕ
 due_mode (Goes prefix) = due_prefix prefix ++ due_refusal None
 due_mode (Over prefix refusal) = due_prefix prefix ++ due_refusal refusal
 
-leads_on : (mode now : Mode) (said more : List HttpElement) → Leads mode said → ((later : List HttpElement) → goes mode (more ++ later) ≡ goes now later) → Leads now (said ++ more)
-leads_on mode now said more leads step later = ap (λ (xs : List HttpElement). in_order Between xs) (append_assoc said more later) ∙ (leads (more ++ later) ∙ step later)
+leads_on : (mode now : Mode) (parsed more : List HttpElement) → Leads mode parsed → ((later : List HttpElement) → goes mode (more ++ later) ≡ goes now later) → Leads now (parsed ++ more)
+leads_on mode now parsed more leads step later = ap (λ (xs : List HttpElement). in_order Between xs) (append_assoc parsed more later) ∙ (leads (more ++ later) ∙ step later)
 
 -- ---- one item
 
@@ -126,34 +126,34 @@ record Completes (id : ℕ) (mode now : Mode) (more : List HttpElement) (asked :
   no_elements : elements_of_mode now ≡ []
   due_none : due_mode now ≡ []
 
-record Stepped (id : ℕ) (mode : Mode) (said more : List HttpElement) (closes : Bool) (body : List ℕ) (asked : List RunPart) (bytes : List ℕ) : Type 0 where
+record Stepped (id : ℕ) (mode : Mode) (parsed more : List HttpElement) (closes : Bool) (body : List ℕ) (asked : List RunPart) (bytes : List ℕ) : Type 0 where
   now : Mode
-  leads : Leads now (said ++ more)
+  leads : Leads now (parsed ++ more)
   fits : Fits now closes body
   comes : Grows mode now more asked bytes ⊎ Completes id mode now more asked bytes
 
 -- a head
-head_comes : (id : ℕ) (mode : Mode) (said : List HttpElement) (next : Bool) (asked : List RunPart) (bytes : List ℕ) → Leads mode said → goes mode (HasHead next ∷ []) ≡ true → asked ≡ [] → bytes ≡ [] → Stepped id mode said (HasHead next ∷ []) next [] asked bytes
-head_comes id (Goes Nothing) said next asked bytes leads ok none quiet = record {
+head_comes : (id : ℕ) (mode : Mode) (parsed : List HttpElement) (next : Bool) (asked : List RunPart) (bytes : List ℕ) → Leads mode parsed → goes mode (HasHead next ∷ []) ≡ true → asked ≡ [] → bytes ≡ [] → Stepped id mode parsed (HasHead next ∷ []) next [] asked bytes
+head_comes id (Goes Nothing) parsed next asked bytes leads ok none quiet = record {
   now = Goes (Begun next false []);
-  leads = leads_on (Goes Nothing) (Goes (Begun next false [])) said (HasHead next ∷ []) leads (λ later. refl);
+  leads = leads_on (Goes Nothing) (Goes (Begun next false [])) parsed (HasHead next ∷ []) leads (λ later. refl);
   fits = (refl, refl);
   comes = inl (record { reads_as = refl; due = quiet; none = none });
 }
-head_comes id (Goes (Begun closes true body)) said next asked bytes leads ok none quiet = absurd (no_false ok)
-head_comes id (Goes (Begun closes false [])) said next asked bytes leads ok none quiet = absurd (no_false ok)
-head_comes id (Goes (Begun closes false (byte ∷ body))) said next asked bytes leads ok none quiet = absurd (no_false ok)
-head_comes id (Over prefix refusal) said next asked bytes leads ok none quiet = absurd (no_false ok)
+head_comes id (Goes (Begun closes true body)) parsed next asked bytes leads ok none quiet = absurd (no_false ok)
+head_comes id (Goes (Begun closes false [])) parsed next asked bytes leads ok none quiet = absurd (no_false ok)
+head_comes id (Goes (Begun closes false (byte ∷ body))) parsed next asked bytes leads ok none quiet = absurd (no_false ok)
+head_comes id (Over prefix refusal) parsed next asked bytes leads ok none quiet = absurd (no_false ok)
 
 -- an invitation
-invitation_comes : (id : ℕ) (mode : Mode) (said : List HttpElement) (closes : Bool) (body : List ℕ) (asked : List RunPart) (bytes : List ℕ) → Leads mode said → Fits mode closes body → goes mode (Invites ∷ []) ≡ true → asked ≡ [] → bytes ≡ continue_head → Stepped id mode said (Invites ∷ []) closes body asked bytes
-invitation_comes id (Goes Nothing) said closes body asked bytes leads fits ok none is = absurd (no_false ok)
-invitation_comes id (Goes (Begun also true octets)) said closes body asked bytes leads fits ok none is = absurd (no_false ok)
-invitation_comes id (Goes (Begun also false (byte ∷ octets))) said closes body asked bytes leads fits ok none is = absurd (no_false ok)
-invitation_comes id (Over prefix refusal) said closes body asked bytes leads fits ok none is = absurd (no_false ok)
-invitation_comes id (Goes (Begun also false [])) said closes body asked bytes leads fits ok none is = record {
+invitation_comes : (id : ℕ) (mode : Mode) (parsed : List HttpElement) (closes : Bool) (body : List ℕ) (asked : List RunPart) (bytes : List ℕ) → Leads mode parsed → Fits mode closes body → goes mode (Invites ∷ []) ≡ true → asked ≡ [] → bytes ≡ continue_head → Stepped id mode parsed (Invites ∷ []) closes body asked bytes
+invitation_comes id (Goes Nothing) parsed closes body asked bytes leads fits ok none is = absurd (no_false ok)
+invitation_comes id (Goes (Begun also true octets)) parsed closes body asked bytes leads fits ok none is = absurd (no_false ok)
+invitation_comes id (Goes (Begun also false (byte ∷ octets))) parsed closes body asked bytes leads fits ok none is = absurd (no_false ok)
+invitation_comes id (Over prefix refusal) parsed closes body asked bytes leads fits ok none is = absurd (no_false ok)
+invitation_comes id (Goes (Begun also false [])) parsed closes body asked bytes leads fits ok none is = record {
   now = Goes (Begun also true []);
-  leads = leads_on (Goes (Begun also false [])) (Goes (Begun also true [])) said (Invites ∷ []) leads (λ later. refl);
+  leads = leads_on (Goes (Begun also false [])) (Goes (Begun also true [])) parsed (Invites ∷ []) leads (λ later. refl);
   fits = fits;
   comes = inl (record { reads_as = refl; due = is ∙ sym (append-nil continue_head); none = none });
 }
@@ -176,17 +176,17 @@ more_elements closes prefix body part =
     ∙ sym (append-nil (HasHead closes ∷ (prefix ++ map HasByte (body ++ part)))))
 
 -- a part of a body, which may be empty
-part_comes : (id : ℕ) (mode : Mode) (part : List ℕ) (said : List HttpElement) (closes : Bool) (body after : List ℕ) (asked : List RunPart) (bytes : List ℕ) → Leads mode said → Fits mode closes body → goes mode (map HasByte part) ≡ true → after ≡ body ++ part → asked ≡ [] → bytes ≡ [] → Stepped id mode said (map HasByte part) closes after asked bytes
-part_comes id (Goes Nothing) [] said closes body after asked bytes leads fits ok grows none quiet = record {
+part_comes : (id : ℕ) (mode : Mode) (part : List ℕ) (parsed : List HttpElement) (closes : Bool) (body after : List ℕ) (asked : List RunPart) (bytes : List ℕ) → Leads mode parsed → Fits mode closes body → goes mode (map HasByte part) ≡ true → after ≡ body ++ part → asked ≡ [] → bytes ≡ [] → Stepped id mode parsed (map HasByte part) closes after asked bytes
+part_comes id (Goes Nothing) [] parsed closes body after asked bytes leads fits ok grows none quiet = record {
   now = Goes Nothing;
-  leads = leads_on (Goes Nothing) (Goes Nothing) said [] leads (λ later. refl);
+  leads = leads_on (Goes Nothing) (Goes Nothing) parsed [] leads (λ later. refl);
   fits = tt;
   comes = inl (record { reads_as = refl; due = quiet; none = none });
 }
-part_comes id (Goes Nothing) (byte ∷ part) said closes body after asked bytes leads fits ok grows none quiet = absurd (no_false ok)
-part_comes id (Goes (Begun also invites octets)) part said closes body after asked bytes leads fits ok grows none quiet = record {
+part_comes id (Goes Nothing) (byte ∷ part) parsed closes body after asked bytes leads fits ok grows none quiet = absurd (no_false ok)
+part_comes id (Goes (Begun also invites octets)) part parsed closes body after asked bytes leads fits ok grows none quiet = record {
   now = Goes (Begun also invites (octets ++ part));
-  leads = leads_on (Goes (Begun also invites octets)) (Goes (Begun also invites (octets ++ part))) said (map HasByte part) leads (bytes_on part also invites octets);
+  leads = leads_on (Goes (Begun also invites octets)) (Goes (Begun also invites (octets ++ part))) parsed (map HasByte part) leads (bytes_on part also invites octets);
   fits = (fits.0, grows ∙ ap (λ (xs : List ℕ). xs ++ part) fits.1);
   comes = inl (record {
     reads_as = more_elements also (if invites then Invites ∷ [] else []) octets part;
@@ -194,9 +194,9 @@ part_comes id (Goes (Begun also invites octets)) part said closes body after ask
     none = none;
   });
 }
-part_comes id (Over prefix refusal) [] said closes body after asked bytes leads fits ok grows none quiet = record {
+part_comes id (Over prefix refusal) [] parsed closes body after asked bytes leads fits ok grows none quiet = record {
   now = Over prefix refusal;
-  leads = leads_on (Over prefix refusal) (Over prefix refusal) said [] leads (λ later. refl);
+  leads = leads_on (Over prefix refusal) (Over prefix refusal) parsed [] leads (λ later. refl);
   fits = tt;
   comes = inl (record {
     reads_as = append-nil (elements_of_prefix prefix ++ elements_of_refusal refusal);
@@ -204,7 +204,7 @@ part_comes id (Over prefix refusal) [] said closes body after asked bytes leads 
     none = none;
   });
 }
-part_comes id (Over prefix refusal) (byte ∷ part) said closes body after asked bytes leads fits ok grows none quiet = absurd (no_false ok)
+part_comes id (Over prefix refusal) (byte ∷ part) parsed closes body after asked bytes leads fits ok grows none quiet = absurd (no_false ok)
 
 -- the end of a body
 answered_by : (id : ℕ) (closes : Bool) (it : ParsedRequest) (asked : List RunPart) (bytes : List ℕ) → IsOwed id closes (asked_step closes it) asked bytes → IsAnswerTo id closes it asked bytes
@@ -221,7 +221,7 @@ ends_on closes true body later = refl
 ends_on closes false [] later = refl
 ends_on closes false (byte ∷ body) later = refl
 
-module _ (id : ℕ) (also invites : Bool) (octets : List ℕ) (said : List HttpElement) (closes : Bool) (body : List ℕ) (asked : List RunPart) (bytes : List ℕ) where
+module _ (id : ℕ) (also invites : Bool) (octets : List ℕ) (parsed : List HttpElement) (closes : Bool) (body : List ℕ) (asked : List RunPart) (bytes : List ℕ) where
   whole : Exchange
   whole = record { closes = also; invites = invites; body = octets; asked = asked; answer = bytes }
 
@@ -231,28 +231,28 @@ module _ (id : ℕ) (also invites : Bool) (octets : List ℕ) (said : List HttpE
   end_due : (due_prefix (Begun also invites octets) ++ due_refusal None) ++ bytes ≡ invitation invites ++ bytes
   end_due = ap (λ (xs : List ℕ). xs ++ bytes) (append-nil (invitation invites))
 
-  end_comes : IsExchange id (record { closes = also; invites = invites; body = octets; asked = asked; answer = bytes }) → Leads (Goes (Begun also invites octets)) said → (t : Bool) → is_last also (length octets) ≡ t → Stepped id (Goes (Begun also invites octets)) said (EndsBody ∷ []) closes body asked bytes
+  end_comes : IsExchange id (record { closes = also; invites = invites; body = octets; asked = asked; answer = bytes }) → Leads (Goes (Begun also invites octets)) parsed → (t : Bool) → is_last also (length octets) ≡ t → Stepped id (Goes (Begun also invites octets)) parsed (EndsBody ∷ []) closes body asked bytes
   end_comes is leads true last = record {
     now = Over Nothing None;
-    leads = leads_on (Goes (Begun also invites octets)) (Over Nothing None) said (EndsBody ∷ []) leads
+    leads = leads_on (Goes (Begun also invites octets)) (Over Nothing None) parsed (EndsBody ∷ []) leads
         (λ later. ends_on also invites octets later ∙ ap (λ (t : Bool). if t then is_none later else in_order Between later) last);
     fits = tt;
     comes = inr (record { whole = record { closes = also; invites = invites; body = octets; asked = asked; answer = bytes }; is = is; reads_as = end_elements; due = end_due; its = refl; no_elements = refl; due_none = refl });
   }
   end_comes is leads false last = record {
     now = Goes Nothing;
-    leads = leads_on (Goes (Begun also invites octets)) (Goes Nothing) said (EndsBody ∷ []) leads
+    leads = leads_on (Goes (Begun also invites octets)) (Goes Nothing) parsed (EndsBody ∷ []) leads
         (λ later. ends_on also invites octets later ∙ ap (λ (t : Bool). if t then is_none later else in_order Between later) last);
     fits = tt;
     comes = inr (record { whole = record { closes = also; invites = invites; body = octets; asked = asked; answer = bytes }; is = is; reads_as = end_elements; due = end_due; its = refl; no_elements = refl; due_none = refl });
   }
 
-body_ends : (id : ℕ) (mode : Mode) (said : List HttpElement) (closes : Bool) (body : List ℕ) (what : Step) (asked : List RunPart) (bytes : List ℕ) → Leads mode said → Fits mode closes body → goes mode (EndsBody ∷ []) ≡ true → Ends closes body what → IsOwed id closes what asked bytes → Stepped id mode said (EndsBody ∷ []) closes [] asked bytes
-body_ends id (Goes Nothing) said closes body what asked bytes leads fits ok ends owed = absurd (no_false ok)
-body_ends id (Goes (Begun also invites octets)) said closes body what asked bytes leads fits ok ends owed =
-    end_comes id also invites octets said closes [] asked bytes
+body_ends : (id : ℕ) (mode : Mode) (parsed : List HttpElement) (closes : Bool) (body : List ℕ) (what : Step) (asked : List RunPart) (bytes : List ℕ) → Leads mode parsed → Fits mode closes body → goes mode (EndsBody ∷ []) ≡ true → Ends closes body what → IsOwed id closes what asked bytes → Stepped id mode parsed (EndsBody ∷ []) closes [] asked bytes
+body_ends id (Goes Nothing) parsed closes body what asked bytes leads fits ok ends owed = absurd (no_false ok)
+body_ends id (Goes (Begun also invites octets)) parsed closes body what asked bytes leads fits ok ends owed =
+    end_comes id also invites octets parsed closes [] asked bytes
     (is_exchange id also invites octets what asked bytes (subst (λ (xs : List ℕ). Ends also xs what) fits.1 (subst (λ (t : Bool). Ends t body what) fits.0 ends)) (subst (λ (t : Bool). IsOwed id t what asked bytes) fits.0 owed)) leads (is_last also (length octets)) refl
-body_ends id (Over prefix refusal) said closes body what asked bytes leads fits ok ends owed = absurd (no_false ok)
+body_ends id (Over prefix refusal) parsed closes body what asked bytes leads fits ok ends owed = absurd (no_false ok)
 
 -- a refusal
 refused_on : (place : Place) (refusal : HttpRejection) (later : List HttpElement) → in_order place (IsRefused refusal ∷ later) ≡ is_none later
@@ -260,10 +260,10 @@ refused_on Between refusal later = refl
 refused_on (Headed closes) refusal later = refl
 refused_on (Within closes count) refusal later = refl
 
-refusal_comes : (id : ℕ) (mode : Mode) (said : List HttpElement) (refusal : HttpRejection) (closes : Bool) (body : List ℕ) (asked : List RunPart) (bytes : List ℕ) → Leads mode said → goes mode (IsRefused refusal ∷ []) ≡ true → asked ≡ [] → bytes ≡ refusal_head refusal → Stepped id mode said (IsRefused refusal ∷ []) closes body asked bytes
-refusal_comes id (Goes prefix) said refusal closes body asked bytes leads ok none is = record {
+refusal_comes : (id : ℕ) (mode : Mode) (parsed : List HttpElement) (refusal : HttpRejection) (closes : Bool) (body : List ℕ) (asked : List RunPart) (bytes : List ℕ) → Leads mode parsed → goes mode (IsRefused refusal ∷ []) ≡ true → asked ≡ [] → bytes ≡ refusal_head refusal → Stepped id mode parsed (IsRefused refusal ∷ []) closes body asked bytes
+refusal_comes id (Goes prefix) parsed refusal closes body asked bytes leads ok none is = record {
   now = Over prefix (Some refusal);
-  leads = leads_on (Goes prefix) (Over prefix (Some refusal)) said (IsRefused refusal ∷ []) leads (λ later. refused_on (place_of prefix) refusal later);
+  leads = leads_on (Goes prefix) (Over prefix (Some refusal)) parsed (IsRefused refusal ∷ []) leads (λ later. refused_on (place_of prefix) refusal later);
   fits = tt;
   comes = inl (record {
     reads_as = ap (λ (xs : List HttpElement). xs ++ IsRefused refusal ∷ []) (append-nil (elements_of_prefix prefix));
@@ -271,57 +271,57 @@ refusal_comes id (Goes prefix) said refusal closes body asked bytes leads ok non
     none = none;
   });
 }
-refusal_comes id (Over prefix other) said refusal closes body asked bytes leads ok none is = absurd (no_false ok)
+refusal_comes id (Over prefix other) parsed refusal closes body asked bytes leads ok none is = absurd (no_false ok)
 
 -- any
-stepped : (id : ℕ) (what_item : HttpItem) (part : List ℕ) (mode : Mode) (said : List HttpElement) (closes : Bool) (body : List ℕ) (what : Step) (asked : List RunPart) (bytes : List ℕ) → Leads mode said → Fits mode closes body → goes mode (elements_of what_item part) ≡ true → StepsIpp what_item closes body what
-    → IsOwed id (closes_after what_item closes) what asked bytes → Stepped id mode said (elements_of what_item part) (closes_after what_item closes) (body_after what_item what part body) asked bytes
-stepped id (item.Head next) part mode said closes body what asked bytes leads fits ok comes owed =
-    let it = subst (λ (s : Step). IsOwed id next s asked bytes) comes owed in head_comes id mode said next asked bytes leads ok it.0 it.1
-stepped id item.Continue part mode said closes body what asked bytes leads fits ok comes owed =
-    let it = subst (λ (s : Step). IsOwed id closes s asked bytes) comes owed in invitation_comes id mode said closes body asked bytes leads fits ok it.0 it.1
-stepped id item.BodyPart part mode said closes body what asked bytes leads fits ok (inl comes) owed =
+stepped : (id : ℕ) (what_item : HttpItem) (part : List ℕ) (mode : Mode) (parsed : List HttpElement) (closes : Bool) (body : List ℕ) (what : Step) (asked : List RunPart) (bytes : List ℕ) → Leads mode parsed → Fits mode closes body → goes mode (elements_of what_item part) ≡ true → StepsIpp what_item closes body what
+    → IsOwed id (closes_after what_item closes) what asked bytes → Stepped id mode parsed (elements_of what_item part) (closes_after what_item closes) (body_after what_item what part body) asked bytes
+stepped id (item.Head next) part mode parsed closes body what asked bytes leads fits ok comes owed =
+    let it = subst (λ (s : Step). IsOwed id next s asked bytes) comes owed in head_comes id mode parsed next asked bytes leads ok it.0 it.1
+stepped id item.Continue part mode parsed closes body what asked bytes leads fits ok comes owed =
+    let it = subst (λ (s : Step). IsOwed id closes s asked bytes) comes owed in invitation_comes id mode parsed closes body asked bytes leads fits ok it.0 it.1
+stepped id item.BodyPart part mode parsed closes body what asked bytes leads fits ok (inl comes) owed =
     let it = subst (λ (s : Step). IsOwed id closes s asked bytes) comes owed in
-    part_comes id mode part said closes body (grown what part body) asked bytes leads fits ok (ap (λ (s : Step). grown s part body) comes) it.0 it.1
-stepped id item.BodyPart part mode said closes body what asked bytes leads fits ok (inr comes) owed = absurd (subst (λ (s : Step). IsOwed id closes s asked bytes) comes owed)
-stepped id item.BodyEnd part mode said closes body what asked bytes leads fits ok comes owed = body_ends id mode said closes body what asked bytes leads fits ok comes owed
-stepped id (item.Refuse refusal) part mode said closes body what asked bytes leads fits ok comes owed =
-    let it = subst (λ (s : Step). IsOwed id closes s asked bytes) comes owed in refusal_comes id mode said refusal closes body asked bytes leads ok it.0 it.1
+    part_comes id mode part parsed closes body (grown what part body) asked bytes leads fits ok (ap (λ (s : Step). grown s part body) comes) it.0 it.1
+stepped id item.BodyPart part mode parsed closes body what asked bytes leads fits ok (inr comes) owed = absurd (subst (λ (s : Step). IsOwed id closes s asked bytes) comes owed)
+stepped id item.BodyEnd part mode parsed closes body what asked bytes leads fits ok comes owed = body_ends id mode parsed closes body what asked bytes leads fits ok comes owed
+stepped id (item.Refuse refusal) part mode parsed closes body what asked bytes leads fits ok comes owed =
+    let it = subst (λ (s : Step). IsOwed id closes s asked bytes) comes owed in refusal_comes id mode parsed refusal closes body asked bytes leads ok it.0 it.1
 
 -- ---- all of them
 
-record Walked (id : ℕ) (mode : Mode) (said : List HttpElement) (acts : List Act) (acted_on : List HttpElement) : Type 0 where
+record Walked (id : ℕ) (mode : Mode) (parsed : List HttpElement) (acts : List Act) (acted_on : List HttpElement) : Type 0 where
   exchanges : List Exchange
   each : All (λ (x : Exchange). IsExchange id x) exchanges
   prefix : Prefix
   refusal : Option HttpRejection
   more : List HttpElement
-  to : acted_on ≡ said ++ more
+  to : acted_on ≡ parsed ++ more
   reads_as : elements_of_mode mode ++ more ≡ flat_map elements_of_exchange exchanges ++ (elements_of_prefix prefix ++ elements_of_refusal refusal)
   asked : flat_map (λ (a : Act). a.asked) acts ≡ flat_map (λ (x : Exchange). x.asked) exchanges
   due : due_mode mode ++ flat_map (λ (a : Act). a.bytes) acts ≡ flat_map due_in exchanges ++ (due_prefix prefix ++ due_refusal refusal)
   ordered : in_order Between acted_on ≡ true
 
-walked_none : (id : ℕ) (mode : Mode) (said acted_on : List HttpElement) → acted_on ≡ said → in_order Between said ≡ true → Walked id mode said [] acted_on
-walked_none id (Goes prefix) said acted_on same order = record {
+walked_none : (id : ℕ) (mode : Mode) (parsed acted_on : List HttpElement) → acted_on ≡ parsed → in_order Between parsed ≡ true → Walked id mode parsed [] acted_on
+walked_none id (Goes prefix) parsed acted_on same order = record {
   exchanges = [];
   each = All-nil (λ (x : Exchange). IsExchange id x);
   prefix = prefix;
   refusal = None;
   more = [];
-  to = same ∙ sym (append-nil said);
+  to = same ∙ sym (append-nil parsed);
   reads_as = append-nil (elements_of_prefix prefix ++ elements_of_refusal None);
   asked = refl;
   due = append-nil (due_prefix prefix ++ due_refusal None);
   ordered = ap (λ (xs : List HttpElement). in_order Between xs) same ∙ order;
 }
-walked_none id (Over prefix refusal) said acted_on same order = record {
+walked_none id (Over prefix refusal) parsed acted_on same order = record {
   exchanges = [];
   each = All-nil (λ (x : Exchange). IsExchange id x);
   prefix = prefix;
   refusal = refusal;
   more = [];
-  to = same ∙ sym (append-nil said);
+  to = same ∙ sym (append-nil parsed);
   reads_as = append-nil (elements_of_prefix prefix ++ elements_of_refusal refusal);
   asked = refl;
   due = append-nil (due_prefix prefix ++ due_refusal refusal);
@@ -337,17 +337,17 @@ parted : {A : Type 0} (old more later now one all rest : List A) → old ++ more
 parted old more later now one all rest is none two =
     joined old more later one ((one ++ all) ++ rest) is (ap (λ xs. one ++ xs) (ap (λ xs. xs ++ later) (sym none) ∙ two) ∙ sym (append_assoc one all rest))
 
-walked_more : (id : ℕ) (mode : Mode) (said more : List HttpElement) (closes : Bool) (body : List ℕ) (a : Act) (acts : List Act) (acted_on : List HttpElement) (s : Stepped id mode said more closes body a.asked a.bytes) → Walked id s.now (said ++ more) acts acted_on → Walked id mode said (a ∷ acts) acted_on
-walked_more id mode said more closes body a acts acted_on s w = by s.comes
+walked_more : (id : ℕ) (mode : Mode) (parsed more : List HttpElement) (closes : Bool) (body : List ℕ) (a : Act) (acts : List Act) (acted_on : List HttpElement) (s : Stepped id mode parsed more closes body a.asked a.bytes) → Walked id s.now (parsed ++ more) acts acted_on → Walked id mode parsed (a ∷ acts) acted_on
+walked_more id mode parsed more closes body a acts acted_on s w = by s.comes
   where
-    by : Grows mode s.now more a.asked a.bytes ⊎ Completes id mode s.now more a.asked a.bytes → Walked id mode said (a ∷ acts) acted_on
+    by : Grows mode s.now more a.asked a.bytes ⊎ Completes id mode s.now more a.asked a.bytes → Walked id mode parsed (a ∷ acts) acted_on
     by (inl g) = record {
       exchanges = w.exchanges;
       each = w.each;
       prefix = w.prefix;
       refusal = w.refusal;
       more = more ++ w.more;
-      to = w.to ∙ append_assoc said more w.more;
+      to = w.to ∙ append_assoc parsed more w.more;
       reads_as = joined (elements_of_mode mode) more w.more (elements_of_mode s.now) (flat_map elements_of_exchange w.exchanges ++ (elements_of_prefix w.prefix ++ elements_of_refusal w.refusal)) g.reads_as w.reads_as;
       asked = ap (λ (its : List RunPart). its ++ flat_map (λ (b : Act). b.asked) acts) g.none ∙ w.asked;
       due = joined (due_mode mode) a.bytes (flat_map (λ (b : Act). b.bytes) acts) (due_mode s.now) (flat_map due_in w.exchanges ++ (due_prefix w.prefix ++ due_refusal w.refusal)) g.due w.due;
@@ -359,40 +359,40 @@ walked_more id mode said more closes body a acts acted_on s w = by s.comes
       prefix = w.prefix;
       refusal = w.refusal;
       more = more ++ w.more;
-      to = w.to ∙ append_assoc said more w.more;
+      to = w.to ∙ append_assoc parsed more w.more;
       reads_as = parted (elements_of_mode mode) more w.more (elements_of_mode s.now) (elements_of_exchange c.whole) (flat_map elements_of_exchange w.exchanges) (elements_of_prefix w.prefix ++ elements_of_refusal w.refusal) c.reads_as c.no_elements w.reads_as;
       asked = ap (λ (its : List RunPart). its ++ flat_map (λ (b : Act). b.asked) acts) c.its ∙ ap (λ (its : List RunPart). c.whole.asked ++ its) w.asked;
       due = parted (due_mode mode) a.bytes (flat_map (λ (b : Act). b.bytes) acts) (due_mode s.now) (due_in c.whole) (flat_map due_in w.exchanges) (due_prefix w.prefix ++ due_refusal w.refusal) c.due c.due_none w.due;
       ordered = w.ordered;
     }
 
-same_said : (acted_on said : List HttpElement) (ends closes : Bool) (left body : List ℕ) → Http acted_on ends left ≡ Http said closes body → acted_on ≡ said
-same_said acted_on said ends closes left body is = cc
+same_elements : (acted_on parsed : List HttpElement) (ends closes : Bool) (left body : List ℕ) → Http acted_on ends left ≡ Http parsed closes body → acted_on ≡ parsed
+same_elements acted_on parsed ends closes left body is = cc
 
 module _ (ordered : ElementsInOrder) (some : SomeParse) (stays : FirstStays) where
-  walk : (id : ℕ) (acts : List Act) (mode : Mode) (said : List HttpElement) (closes : Bool) (body : List ℕ) (acted_on : List HttpElement) (ends : Bool) (left : List ℕ) → Leads mode said → Fits mode closes body → in_order Between said ≡ true → AreActs id (Http said closes body) acts (Http acted_on ends left) → Walked id mode said acts acted_on
-  walk id [] mode said closes body acted_on ends left leads fits order are = walked_none id mode said acted_on (same_said acted_on said ends closes left body are) order
-  walk id (a ∷ acts) mode said closes body acted_on ends left leads fits now (before, is, none, later) =
-      let next : NextIpp a.read said closes body a.what a.after = subst (λ (t : PeerRecord). IsNext a.state.settings a.read t a.what a.after) before is.next in
+  walk : (id : ℕ) (acts : List Act) (mode : Mode) (parsed : List HttpElement) (closes : Bool) (body : List ℕ) (acted_on : List HttpElement) (ends : Bool) (left : List ℕ) → Leads mode parsed → Fits mode closes body → in_order Between parsed ≡ true → AreActs id (Http parsed closes body) acts (Http acted_on ends left) → Walked id mode parsed acts acted_on
+  walk id [] mode parsed closes body acted_on ends left leads fits order are = walked_none id mode parsed acted_on (same_elements acted_on parsed ends closes left body are) order
+  walk id (a ∷ acts) mode parsed closes body acted_on ends left leads fits now (before, is, none, later) =
+      let next : NextIpp a.read parsed closes body a.what a.after = subst (λ (t : PeerRecord). IsNext a.state.settings a.read t a.what a.after) before is.next in
       let more : List HttpElement = elements_of next.item next.part in
       let owed : IsOwed id (closes_after next.item closes) a.what a.asked a.bytes = subst (λ (t : PeerRecord). IsOwed id (closes_of t) a.what a.asked a.bytes) next.is is.owed in
-      let order : in_order Between (said ++ elements_of next.item next.part) ≡ true = first_ordered ordered some stays a.read (said ++ elements_of next.item next.part) next.first in
-      let s : Stepped id mode said (elements_of next.item next.part) (closes_after next.item closes) (body_after next.item a.what next.part body) a.asked a.bytes =
-      stepped id next.item next.part mode said closes body a.what a.asked a.bytes leads fits (sym (leads (elements_of next.item next.part)) ∙ order) next.comes owed in
-      walked_more id mode said (elements_of next.item next.part) (closes_after next.item closes) (body_after next.item a.what next.part body) a acts acted_on s
-      (walk id acts s.now (said ++ elements_of next.item next.part) (closes_after next.item closes) (body_after next.item a.what next.part body) acted_on ends left s.leads s.fits
+      let order : in_order Between (parsed ++ elements_of next.item next.part) ≡ true = first_ordered ordered some stays a.read (parsed ++ elements_of next.item next.part) next.first in
+      let s : Stepped id mode parsed (elements_of next.item next.part) (closes_after next.item closes) (body_after next.item a.what next.part body) a.asked a.bytes =
+      stepped id next.item next.part mode parsed closes body a.what a.asked a.bytes leads fits (sym (leads (elements_of next.item next.part)) ∙ order) next.comes owed in
+      walked_more id mode parsed (elements_of next.item next.part) (closes_after next.item closes) (body_after next.item a.what next.part body) a acts acted_on s
+      (walk id acts s.now (parsed ++ elements_of next.item next.part) (closes_after next.item closes) (body_after next.item a.what next.part body) acted_on ends left s.leads s.fits
       order (subst (λ (t : PeerRecord). AreActs id t acts (Http acted_on ends left)) next.is later))
 
   pub acts_are_exchanges : ActsAreExchanges
-  acts_are_exchanges id acts said closes body are =
-      let w = walk id acts (Goes Nothing) [] false [] said closes body (λ later. refl) tt refl are in
+  acts_are_exchanges id acts parsed closes body are =
+      let w = walk id acts (Goes Nothing) [] false [] parsed closes body (λ later. refl) tt refl are in
       record {
         order = w.ordered;
         exchanges = w.exchanges;
         each = w.each;
         prefix = w.prefix;
         refusal = w.refusal;
-        said = w.to ∙ w.reads_as;
+        parsed = w.to ∙ w.reads_as;
         asked = w.asked;
         due = w.due;
       }
@@ -401,55 +401,55 @@ module _ (ordered : ElementsInOrder) (some : SomeParse) (stays : FirstStays) whe
 
   -- the acts of an LPD client, and of a device, lead to no progress of an IPP client
   no_lpd : (settings : ServerSettings) (read : List ℕ) (items : List ItemRecord) (session : Option SessionState) (what : Step) (after : PeerRecord) → IsNext settings read (Queue items session) what after → (items' : List ItemRecord) × (session' : Option SessionState) × (after ≡ Queue items' session')
-  no_lpd settings read items session what after (inl next) = (items ++ next.said ∷ [], next.session_after, next.is)
+  no_lpd settings read items session what after (inl next) = (items ++ next.parsed ∷ [], next.session_after, next.is)
   no_lpd settings read items session what after (inr next) = (items, session, next.is)
 
-  no_queue : (said : List HttpElement) (closes : Bool) (body : List ℕ) (items : List ItemRecord) (session : Option SessionState) → Http said closes body ≡ Queue items session → ⊥
-  no_queue said closes body items session is = cc
+  no_queue : (parsed : List HttpElement) (closes : Bool) (body : List ℕ) (items : List ItemRecord) (session : Option SessionState) → Http parsed closes body ≡ Queue items session → ⊥
+  no_queue parsed closes body items session is = cc
 
-  no_link : (said : List HttpElement) (closes : Bool) (body : List ℕ) (progress : PeerRecord) → Http said closes body ≡ progress → progress ≡ opening_peer Devices → ⊥
-  no_link said closes body progress is its = cc
+  no_link : (parsed : List HttpElement) (closes : Bool) (body : List ℕ) (progress : PeerRecord) → Http parsed closes body ≡ progress → progress ≡ opening_peer Devices → ⊥
+  no_link parsed closes body progress is its = cc
 
-  lpd_acts : (id : ℕ) (acts : List Act) (items : List ItemRecord) (session : Option SessionState) (said : List HttpElement) (closes : Bool) (body : List ℕ) → AreActs id (Queue items session) acts (Http said closes body) → ⊥
-  lpd_acts id [] items session said closes body are = no_queue said closes body items session are
-  lpd_acts id (a ∷ acts) items session said closes body (before, is, none, later) =
+  lpd_acts : (id : ℕ) (acts : List Act) (items : List ItemRecord) (session : Option SessionState) (parsed : List HttpElement) (closes : Bool) (body : List ℕ) → AreActs id (Queue items session) acts (Http parsed closes body) → ⊥
+  lpd_acts id [] items session parsed closes body are = no_queue parsed closes body items session are
+  lpd_acts id (a ∷ acts) items session parsed closes body (before, is, none, later) =
       let next = no_lpd a.state.settings a.read items session a.what a.after (subst (λ (t : PeerRecord). IsNext a.state.settings a.read t a.what a.after) before is.next) in
-      lpd_acts id acts next.0 next.1 said closes body (subst (λ (t : PeerRecord). AreActs id t acts (Http said closes body)) next.2 later)
+      lpd_acts id acts next.0 next.1 parsed closes body (subst (λ (t : PeerRecord). AreActs id t acts (Http parsed closes body)) next.2 later)
 
-  device_acts : (id : ℕ) (acts : List Act) (said : List HttpElement) (closes : Bool) (body : List ℕ) → AreActs id (opening_peer Devices) acts (Http said closes body) → ⊥
-  device_acts id [] said closes body are = no_link said closes body (opening_peer Devices) are refl
-  device_acts id (a ∷ acts) said closes body (before, is, none, later) = subst (λ (t : PeerRecord). IsNext a.state.settings a.read t a.what a.after) before is.next
+  device_acts : (id : ℕ) (acts : List Act) (parsed : List HttpElement) (closes : Bool) (body : List ℕ) → AreActs id (opening_peer Devices) acts (Http parsed closes body) → ⊥
+  device_acts id [] parsed closes body are = no_link parsed closes body (opening_peer Devices) are refl
+  device_acts id (a ∷ acts) parsed closes body (before, is, none, later) = subst (λ (t : PeerRecord). IsNext a.state.settings a.read t a.what a.after) before is.next
 
-  by_door : (id : ℕ) (door : Door) (acts : List Act) (said : List HttpElement) (closes : Bool) (body : List ℕ) → AreActs id (opening_peer door) acts (Http said closes body) → AreExchanges id said (flat_map (λ (a : Act). a.asked) acts) (flat_map (λ (a : Act). a.bytes) acts)
-  by_door id Ipp acts said closes body are = acts_are_exchanges id acts said closes body are
-  by_door id Lpd acts said closes body are = absurd (lpd_acts id acts [] None said closes body are)
-  by_door id Devices acts said closes body are = absurd (device_acts id acts said closes body are)
+  by_door : (id : ℕ) (door : Door) (acts : List Act) (parsed : List HttpElement) (closes : Bool) (body : List ℕ) → AreActs id (opening_peer door) acts (Http parsed closes body) → AreExchanges id parsed (flat_map (λ (a : Act). a.asked) acts) (flat_map (λ (a : Act). a.bytes) acts)
+  by_door id Ipp acts parsed closes body are = acts_are_exchanges id acts parsed closes body are
+  by_door id Lpd acts parsed closes body are = absurd (lpd_acts id acts [] None parsed closes body are)
+  by_door id Devices acts parsed closes body are = absurd (device_acts id acts parsed closes body are)
 
-  answered_so : (opening : State) (key : ℕ) (handled : List RunPart) (e : Entry) (said : List HttpElement) (closes : Bool) (body : List ℕ) → e.progress ≡ Http said closes body → IsAnswered opening key handled e → ByExchanges key handled said e
-  answered_so opening key handled e said closes body is a =
-      let are = by_door e.id a.door a.acts said closes body (subst (λ (t : PeerRecord). AreActs e.id (opening_peer a.door) a.acts t) is a.are) in
+  answered_so : (opening : State) (key : ℕ) (handled : List RunPart) (e : Entry) (parsed : List HttpElement) (closes : Bool) (body : List ℕ) → e.progress ≡ Http parsed closes body → IsAnswered opening key handled e → ByExchanges key handled parsed e
+  answered_so opening key handled e parsed closes body is a =
+      let are = by_door e.id a.door a.acts parsed closes body (subst (λ (t : PeerRecord). AreActs e.id (opening_peer a.door) a.acts t) is a.are) in
       record {
         earlier = a.earlier;
         since = a.since;
         whole = a.whole;
-        are = subst (λ (its : List RunPart). AreExchanges e.id said its e.due) (sym a.asked) (subst (λ (bytes : List ℕ). AreExchanges e.id said (flat_map (λ (x : Act). x.asked) a.acts) bytes) (sym a.due) are);
+        are = subst (λ (its : List RunPart). AreExchanges e.id parsed its e.due) (sym a.asked) (subst (λ (bytes : List ℕ). AreExchanges e.id parsed (flat_map (λ (x : Act). x.asked) a.acts) bytes) (sym a.due) are);
       }
 
   -- the result of an IPP client's acts before its connection broke
-  last_http : (opening : State) (handled : List RunPart) (whole : List ℕ) (after : PeerRecord) (said : List HttpElement) (closes : Bool) (body : List ℕ) → IsLast opening handled whole after (Http said closes body) → (until : List HttpElement) × (last : Bool) × (left : List ℕ) × (after ≡ Http until last left) × IsOneMore until said
-  last_http opening handled whole (Http until last left) said closes body (inl is) = (until, last, left, refl, inl (sym (same_said until said last closes left body is)))
-  last_http opening handled whole (Http until last left) said closes body (inr (state, read, what, of, prefix, next)) =
-      (until, last, left, refl, inr (next.item, next.part, same_said said (until ++ elements_of next.item next.part) closes (closes_after next.item last) body (body_after next.item what next.part left) next.is))
-  last_http opening handled whole (Queue items session) said closes body (inl is) = absurd (no_queue said closes body items session (sym is))
-  last_http opening handled whole (Queue items session) said closes body (inr (state, read, what, of, prefix, next)) =
-      let it = no_lpd state.settings read items session what (Http said closes body) next in absurd (no_queue said closes body it.0 it.1 it.2)
-  last_http opening handled whole (Link reports device) said closes body (inl is) = cc
-  last_http opening handled whole (Link reports device) said closes body (inr (state, read, what, of, prefix, next)) = absurd next
+  last_http : (opening : State) (handled : List RunPart) (whole : List ℕ) (after : PeerRecord) (parsed : List HttpElement) (closes : Bool) (body : List ℕ) → IsLast opening handled whole after (Http parsed closes body) → (until : List HttpElement) × (last : Bool) × (left : List ℕ) × (after ≡ Http until last left) × IsOneMore until parsed
+  last_http opening handled whole (Http until last left) parsed closes body (inl is) = (until, last, left, refl, inl (sym (same_elements until parsed last closes left body is)))
+  last_http opening handled whole (Http until last left) parsed closes body (inr (state, read, what, of, prefix, next)) =
+      (until, last, left, refl, inr (next.item, next.part, same_elements parsed (until ++ elements_of next.item next.part) closes (closes_after next.item last) body (body_after next.item what next.part left) next.is))
+  last_http opening handled whole (Queue items session) parsed closes body (inl is) = absurd (no_queue parsed closes body items session (sym is))
+  last_http opening handled whole (Queue items session) parsed closes body (inr (state, read, what, of, prefix, next)) =
+      let it = no_lpd state.settings read items session what (Http parsed closes body) next in absurd (no_queue parsed closes body it.0 it.1 it.2)
+  last_http opening handled whole (Link reports device) parsed closes body (inl is) = cc
+  last_http opening handled whole (Link reports device) parsed closes body (inr (state, read, what, of, prefix, next)) = absurd next
 
-  cut_so : (opening : State) (key : ℕ) (handled : List RunPart) (e : Entry) (said : List HttpElement) (closes : Bool) (body : List ℕ) → e.progress ≡ Http said closes body → IsCutOff opening key handled e → UntilBroken key handled said e
-  cut_so opening key handled e said closes body is cut =
+  cut_so : (opening : State) (key : ℕ) (handled : List RunPart) (e : Entry) (parsed : List HttpElement) (closes : Bool) (body : List ℕ) → e.progress ≡ Http parsed closes body → IsCutOff opening key handled e → UntilBroken key handled parsed e
+  cut_so opening key handled e parsed closes body is cut =
       let b = cut.until in
-      let it = last_http opening handled e.read b.after said closes body (subst (λ (t : PeerRecord). IsLast opening handled e.read b.after t) is b.last) in
+      let it = last_http opening handled e.read b.after parsed closes body (subst (λ (t : PeerRecord). IsLast opening handled e.read b.after t) is b.last) in
       record {
         earlier = cut.earlier;
         since = cut.since;
@@ -464,16 +464,16 @@ module _ (ordered : ElementsInOrder) (some : SomeParse) (stays : FirstStays) whe
       }
 
   so : (opening : State) (key : ℕ) (handled : List RunPart) (e : Entry) (progress : PeerRecord) → e.progress ≡ progress → (ClientTalk progress → e.broken ≡ false → IsAnswered opening key handled e) → (ClientTalk progress → e.broken ≡ true → IsCutOff opening key handled e) → IsByExchanges key handled progress e
-  so opening key handled e (Http said closes body) is answered cut = (λ sound. answered_so opening key handled e said closes body is (answered tt sound), λ broken. cut_so opening key handled e said closes body is (cut tt broken))
+  so opening key handled e (Http parsed closes body) is answered cut = (λ sound. answered_so opening key handled e parsed closes body is (answered tt sound), λ broken. cut_so opening key handled e parsed closes body is (cut tt broken))
   so opening key handled e (Queue items session) is answered cut = tt
   so opening key handled e (Link reports device) is answered cut = tt
 
   -- of a connection that was closed
   was_so : (opening : State) (handled : List RunPart) (e : Entry) (progress : PeerRecord) → e.progress ≡ progress → (t : Bool) → e.broken ≡ t → WasAnswered opening handled e → WasCutOff opening handled e → WasByExchanges handled e
-  was_so opening handled e (Http said closes body) is false sound answered cut =
+  was_so opening handled e (Http parsed closes body) is false sound answered cut =
       let it = answered (subst ClientTalk (sym is) tt) sound in
       (it.0, it.1, it.2, it.3, so opening it.0 it.1 e e.progress refl (λ client unbroken. it.4) (λ client broken. absurd (no_false (sym sound ∙ broken))))
-  was_so opening handled e (Http said closes body) is true broke answered cut =
+  was_so opening handled e (Http parsed closes body) is true broke answered cut =
       let it = cut (subst ClientTalk (sym is) tt) broke in
       (it.0, it.1, it.2, it.3, so opening it.0 it.1 e e.progress refl (λ client unbroken. absurd (no_false (sym unbroken ∙ broke))) (λ client broken. it.4))
   was_so opening handled e (Queue items session) is t broke answered cut = (0, [], handled, refl, subst (λ (progress : PeerRecord). IsByExchanges 0 [] progress e) (sym is) tt)

@@ -127,18 +127,18 @@ breaks_all key l hs l' first it = breaks_at key (l.entries key) l hs l' first (f
 
 -- more was read
 first_more : (read bytes : List ℕ) (progress : PeerRecord) → IsFirst read progress → IsFirst (read ++ bytes) progress
-first_more read bytes (Http said closes body) is = record { next = is.next; left = is.left ++ bytes; leads = (is.leads.0, leads_more is.leads.0 Head read bytes said is.next is.left is.leads.1) }
+first_more read bytes (Http parsed closes body) is = record { next = is.next; left = is.left ++ bytes; leads = (is.leads.0, leads_more is.leads.0 Head read bytes parsed is.next is.left is.leads.1) }
 first_more read bytes (Queue items session) is = record { next = is.next; left = is.left ++ bytes; leads = items_more Command read bytes items is.next is.left is.leads }
 first_more read bytes (Link reports device) is = tt
 
 first_unnamed : (read : List ℕ) (progress : PeerRecord) → IsFirst read progress → IsFirst read (unnamed progress)
-first_unnamed read (Http said closes body) is = is
+first_unnamed read (Http parsed closes body) is = is
 first_unnamed read (Queue items session) is = is
 first_unnamed read (Link reports device) is = tt
 
 -- the next of its stream
 first_mid : (settings : ServerSettings) (progress : PeerRecord) (e : Entry) (comes : Step) (mid : Entry) → IsFirst e.read e.progress → ItemComes settings progress e comes mid → IsFirst mid.read mid.progress
-first_mid settings (Http said closes body) e comes mid is next = subst (λ (x : Entry). IsFirst x.read x.progress) (sym next.after) next.next
+first_mid settings (Http parsed closes body) e comes mid is next = subst (λ (x : Entry). IsFirst x.read x.progress) (sym next.after) next.next
 first_mid settings (Queue items session) e comes mid is (inl next) = subst (λ (x : Entry). IsFirst x.read x.progress) (sym next.after) next.next
 first_mid settings (Queue items session) e comes mid is (inr (inl next)) = subst (λ (x : Entry). IsFirst x.read x.progress) (sym next.after) is
 first_mid settings (Queue items session) e comes mid is (inr (inr next)) = subst (λ (x : Entry). IsFirst x.read x.progress) (sym next.1) is
@@ -327,7 +327,7 @@ keeps_does moment key id (ask.Event who event) = λ l hs l' first (outcome, it).
 keeps_does moment key id (ask.Unread request) = keeps_dropped key id request
 keeps_does moment key id (ask.Lost part) = keeps_declines (place_of_part part) key id
 keeps_does moment key id (ask.Hello device name) = keeps_greets moment key id device name
-keeps_does moment key id (ask.Report device said) = keeps_unanswered moment (Is.Report device said)
+keeps_does moment key id (ask.Report device parsed) = keeps_unanswered moment (Is.Report device parsed)
 keeps_does moment key id (ask.UnknownDevice name) = keeps_notifies (DeviceRefused id (why.UnknownName name))
 keeps_does moment key id (ask.Fault device) = keeps_notifies (DeviceRefused id (why.Fault device))
 
@@ -474,7 +474,7 @@ body_comes moment body served l hs l' first (inr it) = keeps_same l l' (ap (λ (
 keeps_action : (action : Action) (l l' : Ledger) → AllFirst l → DoesAction action l l' → AllFirst l'
 keeps_action (Turned moment hs) l l' first it = keeps_turn moment l hs l' first it
 keeps_action (Served_body moment body answer hs) l l' first (served, same, it) = body_comes moment body served l hs l' first it
-keeps_action (Reported moment device said hs) l l' first (what, same, it) = keeps_unanswered moment (Is.Report device what) l hs l' first it
+keeps_action (Reported moment device parsed hs) l l' first (what, same, it) = keeps_unanswered moment (Is.Report device what) l hs l' first it
 keeps_action (Ticked moment hs) l l' first it = keeps_ticks moment l hs l' first it
 
 keeps_trace : (trace : Trace) (l l' : Ledger) → AllFirst l → Runs trace l l' → AllFirst l'

@@ -138,9 +138,9 @@ acted_calm moment key lost comes new base Q l hs l' there client owed halted g =
 
 -- a client's event gives no device's name
 own_nameless : (turn : Bool) (who : Client) (event : Event) → EventOf who event → named_by turn event ≡ None
-own_nameless turn (client.Ipp request) (Is.Report device said) own = absurd own
-own_nameless turn client.LpdJob (Is.Report device said) own = absurd own
-own_nameless turn client.LpdCommand (Is.Report device said) own = absurd own
+own_nameless turn (client.Ipp request) (Is.Report device parsed) own = absurd own
+own_nameless turn client.LpdJob (Is.Report device parsed) own = absurd own
+own_nameless turn client.LpdCommand (Is.Report device parsed) own = absurd own
 own_nameless turn who event own = refl
 
 -- the core handles the client's event
@@ -249,9 +249,9 @@ acted_by moment key id (step.Breaks asked) m new what l hs l' fine (is, after) c
 
 -- the next of a client's stream, as an act has it
 pub next_of : (settings : ServerSettings) (progress : PeerRecord) (e : Entry) (comes : Step) (mid : Entry) → ClientTalk progress → e.progress ≡ progress → IsClientStep comes → ItemComes settings progress e comes mid → (mid.due ≡ e.due) × (((comes ≡ no_memory) × (mid.progress ≡ progress)) ⊎ IsNext settings e.read progress comes mid.progress) × ReadsOn e mid
-next_of settings (Http said closes body) e comes mid client is fine next = (ap (λ (x : Entry). x.due) next.after, inr (record { item = next.item; part = next.part; first = next.next; comes = next.comes; is = ap (λ (x : Entry). x.progress) next.after }), reads_still e mid (ap (λ (x : Entry). x.id) next.after) (ap (λ (x : Entry). x.read) next.after) (ap (λ (x : Entry). x.draining) next.after))
+next_of settings (Http parsed closes body) e comes mid client is fine next = (ap (λ (x : Entry). x.due) next.after, inr (record { item = next.item; part = next.part; first = next.next; comes = next.comes; is = ap (λ (x : Entry). x.progress) next.after }), reads_still e mid (ap (λ (x : Entry). x.id) next.after) (ap (λ (x : Entry). x.read) next.after) (ap (λ (x : Entry). x.draining) next.after))
 next_of settings (Queue items session) e comes mid client is fine (inl next) =
-    (ap (λ (x : Entry). x.due) next.after, inr (inl (record { said = next.said; session_after = next.session_after; first = next.next; comes = next.comes; is = ap (λ (x : Entry). x.progress) next.after })), reads_still e mid (ap (λ (x : Entry). x.id) next.after) (ap (λ (x : Entry). x.read) next.after) (ap (λ (x : Entry). x.draining) next.after))
+    (ap (λ (x : Entry). x.due) next.after, inr (inl (record { parsed = next.parsed; session_after = next.session_after; first = next.next; comes = next.comes; is = ap (λ (x : Entry). x.progress) next.after })), reads_still e mid (ap (λ (x : Entry). x.id) next.after) (ap (λ (x : Entry). x.read) next.after) (ap (λ (x : Entry). x.draining) next.after))
 next_of settings (Queue items session) e comes mid client is fine (inr (inl next)) = (ap (λ (x : Entry). x.due) next.after, inr (inr (record { fault = next.fault; reads_as = next.is; comes = next.comes; is = ap (λ (x : Entry). x.progress) next.after ∙ is })), reads_still e mid (ap (λ (x : Entry). x.id) next.after) (ap (λ (x : Entry). x.read) next.after) (ap (λ (x : Entry). x.draining) next.after))
 next_of settings (Queue items session) e comes mid client is fine (inr (inr next)) = (ap (λ (x : Entry). x.due) next.1, inl (next.0, ap (λ (x : Entry). x.progress) next.1 ∙ is), reads_still e mid (ap (λ (x : Entry). x.id) next.1) (ap (λ (x : Entry). x.read) next.1) (ap (λ (x : Entry). x.draining) next.1))
 next_of settings (Link reports device) e comes mid client is fine next = absurd client
@@ -471,7 +471,7 @@ device_acts moment key id what l prefix mid back l' hs whole good a (inr names) 
 
 pub acts_by : (moment key id : ℕ) (what : Ask) (l : Ledger) (prefix : List Happening) (mid : Ledger) (back : List Happening) (l' : Ledger) (hs : List Happening) → hs ≡ prefix ++ back → Good l
     → (a : Asks key id what l prefix mid) → (progress : PeerRecord) → a.entry.progress ≡ progress → ActsOn moment key id what mid back l' → Goes true moment l hs l'
-acts_by moment key id what l prefix mid back l' hs whole good a (Http said closes body) is does = client_acts moment key id what l prefix mid back l' hs whole good a (subst ClientTalk (sym is) tt) does
+acts_by moment key id what l prefix mid back l' hs whole good a (Http parsed closes body) is does = client_acts moment key id what l prefix mid back l' hs whole good a (subst ClientTalk (sym is) tt) does
 acts_by moment key id what l prefix mid back l' hs whole good a (Queue items session) is does = client_acts moment key id what l prefix mid back l' hs whole good a (subst ClientTalk (sym is) tt) does
 acts_by moment key id what l prefix mid back l' hs whole good a (Link reports device) is does =
     device_acts moment key id what l prefix mid back l' hs whole good a

@@ -95,12 +95,12 @@ awaits moment device key e new l hs l' good silent named fresh due alone = recor
     stops other f is of broken (inr (aside, sent, none)) = stops_still l.core other [] (l.entries other) (l'.entries other) sent.stays refl f is of broken
 
 pub unnamed_device : (progress : PeerRecord) (device : ℕ) → device_of (unnamed progress) ≡ Some device → ⊥
-unnamed_device (Http said closes body) device is = cc
+unnamed_device (Http parsed closes body) device is = cc
 unnamed_device (Queue items session) device is = cc
 unnamed_device (Link reports other) device is = cc
 
 named_client : (progress : PeerRecord) (device : ℕ) → device_of progress ≡ Some device → ClientTalk (unnamed progress) → ⊥
-named_client (Http said closes body) device is client = cc
+named_client (Http parsed closes body) device is client = cc
 named_client (Queue items session) device is client = cc
 named_client (Link reports other) device is client = client
 
@@ -166,7 +166,7 @@ pub device_there : (device : ℕ) (o : Option Entry) → IsDevice device o → (
 device_there device None is = absurd is
 device_there device (Some e) is = (e, refl)
 
--- the connection under the key has just said the name of this device
+-- the connection under the key has just given the name of this device
 pub record Just (key device : ℕ) (name : List ℕ) (e new : Entry) (l : Ledger) (hs : List Happening) (mid : Ledger) : Type 0 where
   pub good : Good l
   pub silent : run_notes hs ≡ []

@@ -12,7 +12,7 @@ use Rattle.server.specs.Ledger.{Ledger, Fate, at_key, without}
 use Rattle.server.specs.Enqueuing.{IsDevice}
 use Rattle.server.specs.Hello.{IsAlone}
 use Rattle.promises.specs.Orders.{names}
-use Rattle.promises.specs.Delivered.{said_on, life_of, is_of, progress_of, HasBroken, IsGivenUp, IsNow, IsReported, IsGreeted, IsRead}
+use Rattle.promises.specs.Delivered.{reports_given, life_of, is_of, progress_of, HasBroken, IsGivenUp, IsNow, IsReported, IsGreeted, IsRead}
 use Rattle.promises.proofs.SentToDevices.{same_key, other_key, is_key, not_key, one_entry, no_true}
 
 -- ---- a connection
@@ -44,11 +44,11 @@ no_both o device p q = cc
 pub no_entry : (o : Option Entry) (e : Entry) → o ≡ None → o ≡ Some e → ⊥
 no_entry o e p q = cc
 
-pub read_as : (d e : Entry) → said_on e.progress ≡ said_on d.progress → e.read ≡ d.read → IsRead d → IsRead e
-read_as d e said read (prefix, rest, whole, reads_as) = (prefix, rest, read ∙ whole, subst (λ (reports : List ReportRecord). ParsesFirst prefix reports) (sym said) reads_as)
+pub read_as : (d e : Entry) → reports_given e.progress ≡ reports_given d.progress → e.read ≡ d.read → IsRead d → IsRead e
+read_as d e parsed read (prefix, rest, whole, reads_as) = (prefix, rest, read ∙ whole, subst (λ (reports : List ReportRecord). ParsesFirst prefix reports) (sym parsed) reads_as)
 
 pub grows_as : (d e : Entry) → e.progress ≡ d.progress → e.read ≡ d.read → (d.broken ≡ true → e.broken ≡ true) → Grows d e
-grows_as d e progress read broken = record { progress = inl progress; broken = broken; reads = read_as d e (ap said_on progress) read }
+grows_as d e progress read broken = record { progress = inl progress; broken = broken; reads = read_as d e (ap reports_given progress) read }
 
 pub grows_reading : (d : Entry) (segment : List ℕ) → Grows d (reading segment d)
 grows_reading d segment = record {
@@ -233,12 +233,12 @@ reported_as device notified other l same r = subst (λ (reports : List ReportRec
 
 -- ---- a connection's end
 
--- a connection ended on which this was said
-past_more : (past : List PeerRecord) (progress : PeerRecord) (now notified : List ReportRecord) → notified ≡ flat_map life_of past ++ now → said_on progress ≡ now → notified ++ GoneReport ∷ [] ≡ flat_map life_of (past ++ progress ∷ []) ++ []
-past_more past progress now notified whole said =
+-- a connection ended on which these reports came
+past_more : (past : List PeerRecord) (progress : PeerRecord) (now notified : List ReportRecord) → notified ≡ flat_map life_of past ++ now → reports_given progress ≡ now → notified ++ GoneReport ∷ [] ≡ flat_map life_of (past ++ progress ∷ []) ++ []
+past_more past progress now notified whole parsed =
     ap (λ (reports : List ReportRecord). reports ++ GoneReport ∷ []) whole
     ∙ (append_assoc (flat_map life_of past) now (GoneReport ∷ [])
-    ∙ (ap (λ (reports : List ReportRecord). flat_map life_of past ++ (reports ++ GoneReport ∷ [])) (sym said)
+    ∙ (ap (λ (reports : List ReportRecord). flat_map life_of past ++ (reports ++ GoneReport ∷ [])) (sym parsed)
     ∙ sym (append-nil (flat_map life_of (past ++ progress ∷ [])) ∙ (flat_map-append life_of past (progress ∷ []) ∙ ap (λ (reports : List ReportRecord). flat_map life_of past ++ reports) (append-nil (life_of progress))))))
 
 closed_more : (device : ℕ) (closed : List (Entry × Fate)) (it : Entry × Fate) → filter (is_of device) (map progress_of (closed ++ it ∷ [])) ≡ filter (is_of device) (map progress_of closed) ++ filter (is_of device) (progress_of it ∷ [])
@@ -287,7 +287,7 @@ left_named : (device key : ℕ) (e : Entry) (fate : Fate) (notified : List Repor
 left_named device key e fate notified l there named r = record {
   past = r.past ++ e.progress ∷ [];
   now = [];
-  whole = past_more r.past e.progress r.now notified r.whole (ap said_on one.progress);
+  whole = past_more r.past e.progress r.now notified r.whole (ap reports_given one.progress);
   closed = filter-append (is_of device) r.past (e.progress ∷ []) ∙ (ap (λ (progresses : List PeerRecord). progresses ++ filter (is_of device) (e.progress ∷ [])) r.closed ∙ sym (closed_more device l.closed (e, fate)));
   superseded_entry = All-append (λ (progress : PeerRecord). is_of device progress ≡ false → IsGivenUp progress (without key e fate l)) r.past (e.progress ∷ []) (given_left device key e fate r.past l there r.superseded_entry)
       (All-cons (λ (progress : PeerRecord). is_of device progress ≡ false → IsGivenUp progress (without key e fate l)) e.progress [] (λ isnt. absurd (no_true (is_of device e.progress) this isnt)) (All-nil (λ (progress : PeerRecord). is_of device progress ≡ false → IsGivenUp progress (without key e fate l))));
@@ -339,8 +339,8 @@ reported_left device key (Some other) e fate notified l there is r = by (other =
 abbrev pub notified_if : ℕ → ℕ → List ReportRecord → List ReportRecord
 notified_if device dev reports = if dev == device then reports else []
 
-more_notified : (past : List PeerRecord) (now notified : List ReportRecord) (said : ReportRecord) → notified ≡ flat_map life_of past ++ now → notified ++ said ∷ [] ≡ flat_map life_of past ++ (now ++ said ∷ [])
-more_notified past now notified said whole = ap (λ (reports : List ReportRecord). reports ++ said ∷ []) whole ∙ append_assoc (flat_map life_of past) now (said ∷ [])
+more_notified : (past : List PeerRecord) (now notified : List ReportRecord) (parsed : ReportRecord) → notified ≡ flat_map life_of past ++ now → notified ++ parsed ∷ [] ≡ flat_map life_of past ++ (now ++ parsed ∷ [])
+more_notified past now notified parsed whole = ap (λ (reports : List ReportRecord). reports ++ parsed ∷ []) whole ∙ append_assoc (flat_map life_of past) now (parsed ∷ [])
 
 -- the other device's
 other_device : (device dev : ℕ) → (dev == device) ≡ false → (o : Option Entry) (e : Entry) → o ≡ Some e → device_of e.progress ≡ Some dev → IsDevice device o → ⊥
@@ -356,43 +356,43 @@ same_reports : (one other : List ReportRecord) (device dev : ℕ) → Link one (
 same_reports one other device dev same = cc
 
 -- one more report on the device's connection
-pub record More (dev key : ℕ) (said : ReportRecord) (l l' : Ledger) : Type 0 where
+pub record More (dev key : ℕ) (parsed : ReportRecord) (l l' : Ledger) : Type 0 where
   pub d : Entry
   pub f : Entry
   pub reports : List ReportRecord
   pub there : l.entries key ≡ Some d
   pub progress : d.progress ≡ Link reports (Some dev)
   pub now : l'.entries key ≡ Some f
-  pub after : f.progress ≡ Link (reports ++ said ∷ []) (Some dev)
+  pub after : f.progress ≡ Link (reports ++ parsed ∷ []) (Some dev)
   pub others : (k : ℕ) → k ≢ key → Kept (l.entries k) (l'.entries k)
   pub closed : l'.closed ≡ l.closed
 
-pub reported_more : (device dev key : ℕ) (said : ReportRecord) (notified : List ReportRecord) (l l' : Ledger) → More dev key said l l' → IsReported device notified l → IsReported device (notified ++ notified_if device dev (said ∷ [])) l'
-reported_more device dev key said notified l l' m r = by (dev == device) refl
+pub reported_more : (device dev key : ℕ) (parsed : ReportRecord) (notified : List ReportRecord) (l l' : Ledger) → More dev key parsed l l' → IsReported device notified l → IsReported device (notified ++ notified_if device dev (parsed ∷ [])) l'
+reported_more device dev key parsed notified l l' m r = by (dev == device) refl
   where
     passes : (k : ℕ) → Passes (l.entries k) (l'.entries k)
     passes k = by_key k key (λ same. passes_named dev m.d (l.entries k) (l'.entries k) (ap l.entries same ∙ m.there) (ap device_of m.progress)) (λ apart. kept_passes (l.entries k) (l'.entries k) (m.others k apart))
 
-    this : dev ≡ device → IsReported device (notified ++ said ∷ []) l'
+    this : dev ≡ device → IsReported device (notified ++ parsed ∷ []) l'
     this same =
         let one = only_one device r.now key m.d l m.there (ap device_of m.progress ∙ ap (λ (x : ℕ). Some x) same) r.is_now in
         let are : m.reports ≡ r.now = same_reports m.reports r.now dev device (sym m.progress ∙ one.progress) in
         record {
           past = r.past;
-          now = r.now ++ said ∷ [];
-          whole = more_notified r.past r.now notified said r.whole;
+          now = r.now ++ parsed ∷ [];
+          whole = more_notified r.past r.now notified parsed r.whole;
           closed = closed_same device r.past l l' m.closed r.closed;
           superseded_entry = given_passes device r.past l l' m.closed passes r.superseded_entry;
           is_now = inr (
             key,
             m.f,
             m.now,
-            m.after ∙ (ap (λ (reports : List ReportRecord). Link (reports ++ said ∷ []) (Some dev)) are ∙ ap (λ (x : ℕ). Link (r.now ++ said ∷ []) (Some x)) same),
+            m.after ∙ (ap (λ (reports : List ReportRecord). Link (reports ++ parsed ∷ []) (Some dev)) are ∙ ap (λ (x : ℕ). Link (r.now ++ parsed ∷ []) (Some x)) same),
             λ k apart is. one.alone k apart (named_was device (l.entries k) (l'.entries k) (m.others k apart) is),
           );
         }
 
-    by : (t : Bool) → (dev == device) ≡ t → IsReported device (notified ++ (if t then said ∷ [] else [])) l'
+    by : (t : Bool) → (dev == device) ≡ t → IsReported device (notified ++ (if t then parsed ∷ [] else [])) l'
     by true same = this (same_key dev device same)
     by false apart =
         reported_as device notified (notified ++ []) l' (sym (append-nil notified))
@@ -471,7 +471,7 @@ pub record Over (dev key other : ℕ) (l l' : Ledger) : Type 0 where
   pub others : (k : ℕ) → k ≢ key → k ≢ other → Kept (l.entries k) (l'.entries k)
 
 pub unnamed_nameless : (progress : PeerRecord) → device_of (unnamed progress) ≡ None
-unnamed_nameless (Http said closes body) = refl
+unnamed_nameless (Http parsed closes body) = refl
 unnamed_nameless (Queue items session) = refl
 unnamed_nameless (Link reports device) = refl
 
@@ -557,14 +557,14 @@ sound_left key e fate l there sound = record {
   closed = All-append (λ (it : Entry × Fate). IsRead it.0) l.closed ((e, fate) ∷ []) sound.closed (All-cons (λ (it : Entry × Fate). IsRead it.0) (e, fate) [] (subst SoundAt there (sound.each key)).1 (All-nil (λ (it : Entry × Fate). IsRead it.0)));
 }
 
-pub first_read : (e : Entry) (read : List ℕ) (reports : List ReportRecord) → ParsesFirst read reports → e.read ≡ read → said_on e.progress ≡ reports → IsRead e
-first_read e read reports reads_as same said = (read, [], same ∙ sym (append-nil read), subst (λ (its : List ReportRecord). ParsesFirst read its) (sym said) reads_as)
+pub first_read : (e : Entry) (read : List ℕ) (reports : List ReportRecord) → ParsesFirst read reports → e.read ≡ read → reports_given e.progress ≡ reports → IsRead e
+first_read e read reports reads_as same parsed = (read, [], same ∙ sym (append-nil read), subst (λ (its : List ReportRecord). ParsesFirst read its) (sym parsed) reads_as)
 
 -- the connection has no report
-pub none_read : (e : Entry) → said_on e.progress ≡ [] → IsRead e
-none_read e said = first_read e e.read [] (record { next = false; left = e.read; leads = (refl, refl) }) refl said
+pub none_read : (e : Entry) → reports_given e.progress ≡ [] → IsRead e
+none_read e parsed = first_read e e.read [] (record { next = false; left = e.read; leads = (refl, refl) }) refl parsed
 
--- ---- whose name was said
+-- ---- whose name was given
 
 pub record AllGreeted (Name : List ℕ → ℕ → Type 0) (l : Ledger) : Type 0 where
   pub each : (key : ℕ) (e : Entry) → l.entries key ≡ Some e → IsGreeted Name e
@@ -617,8 +617,8 @@ greeted_first Name dev name e progress is device reports same =
     let both = same_link (HelloReport name ∷ []) reports dev device (sym progress ∙ same) in
     (name, [], sym both.0, subst (Name name) both.1 is)
 
-pub greeted_more : (Name : List ℕ → ℕ → Type 0) (dev : ℕ) (said : ReportRecord) (before : List ReportRecord) (d e : Entry) → d.progress ≡ Link before (Some dev) → e.progress ≡ Link (before ++ said ∷ []) (Some dev) → IsGreeted Name d → IsGreeted Name e
-greeted_more Name dev said before d e was progress greeted device reports same =
-    let both = same_link (before ++ said ∷ []) reports dev device (sym progress ∙ same) in
+pub greeted_more : (Name : List ℕ → ℕ → Type 0) (dev : ℕ) (parsed : ReportRecord) (before : List ReportRecord) (d e : Entry) → d.progress ≡ Link before (Some dev) → e.progress ≡ Link (before ++ parsed ∷ []) (Some dev) → IsGreeted Name d → IsGreeted Name e
+greeted_more Name dev parsed before d e was progress greeted device reports same =
+    let both = same_link (before ++ parsed ∷ []) reports dev device (sym progress ∙ same) in
     let it = greeted dev before was in
-    (it.0, it.1 ++ said ∷ [], sym both.0 ∙ ap (λ (its : List ReportRecord). its ++ said ∷ []) it.2, subst (Name it.0) both.1 it.3)
+    (it.0, it.1 ++ parsed ∷ [], sym both.0 ∙ ap (λ (its : List ReportRecord). its ++ parsed ∷ []) it.2, subst (Name it.0) both.1 it.3)

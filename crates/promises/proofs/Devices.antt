@@ -19,7 +19,7 @@ use Rattle.connections.specs.Entry.{PeerRecord, Http, Queue, Link, Entry, device
 use Rattle.connections.specs.Asking.{ItemComes, StepsTo}
 use Rattle.connections.specs.Steps.{StepsHello, StepsDevice}
 use Rattle.promises.specs.Answers.{ClientTalk}
-use Rattle.promises.specs.Delivered.{said_on, IsRead}
+use Rattle.promises.specs.Delivered.{reports_given, IsRead}
 use Rattle.promises.proofs.AnswerKinds.{EventOf}
 use Rattle.promises.proofs.SentToDevices.{no_true}
 use Rattle.promises.proofs.StreamSteps.{IsClientAsk, IsClientStep}
@@ -65,20 +65,20 @@ step_progress (step.Asks it last) mid what new steps = ap (λ (x : Entry). x.pro
 step_progress (step.Breaks it) mid what new steps = ap (λ (x : Entry). x.progress) steps.1
 
 pub client_nameless : (progress : PeerRecord) → ClientTalk progress → device_of progress ≡ None
-client_nameless (Http said closes body) client = refl
+client_nameless (Http parsed closes body) client = refl
 client_nameless (Queue items session) client = refl
 client_nameless (Link reports device) client = absurd client
 
-pub client_said : (progress : PeerRecord) → ClientTalk progress → said_on progress ≡ []
-client_said (Http said closes body) client = refl
-client_said (Queue items session) client = refl
-client_said (Link reports device) client = absurd client
+pub client_reports_none : (progress : PeerRecord) → ClientTalk progress → reports_given progress ≡ []
+client_reports_none (Http parsed closes body) client = refl
+client_reports_none (Queue items session) client = refl
+client_reports_none (Link reports device) client = absurd client
 
 pub client_grows : (d e : Entry) → d.broken ≡ false → ClientTalk d.progress → ClientTalk e.progress → Grows d e
 client_grows d e sound before after = record {
   progress = inr (record { sound = sound; before = client_nameless d.progress before; after = client_nameless e.progress after; fresh = λ reports progress unbroken. absurd (subst ClientTalk progress after) });
   broken = λ is. absurd (no_true d.broken is sound);
-  reads = λ is. none_read e (client_said e.progress after);
+  reads = λ is. none_read e (client_reports_none e.progress after);
 }
 
 -- ---- steps of a device
@@ -129,7 +129,7 @@ pub stranger_grows : (e new : Entry) (reports more : List ReportRecord) → e.pr
 stranger_grows e new reports more progress sound reads_as whole = record {
   progress = inr (record { sound = sound; before = ap device_of progress; after = ap (λ (x : Entry). device_of x.progress) whole; fresh = λ its is unbroken. absurd (no_true new.broken (ap (λ (x : Entry). x.broken) whole) unbroken) });
   broken = λ is. ap (λ (x : Entry). x.broken) whole;
-  reads = λ is. first_read new e.read more reads_as (ap (λ (x : Entry). x.read) whole) (ap (λ (x : Entry). said_on x.progress) whole);
+  reads = λ is. first_read new e.read more reads_as (ap (λ (x : Entry). x.read) whole) (ap (λ (x : Entry). reports_given x.progress) whole);
 }
 
 pub named_step : (settings : ServerSettings) (name : List ℕ) (place device_after : Option ℕ) (reports : List ReportRecord) (e : Entry) (comes : Step) (mid : Entry) (what : Ask) (new : Entry) → device_named settings name ≡ place → e.progress ≡ Link reports None → e.broken ≡ false → ParsesFirst e.read (reports ++ HelloReport name ∷ [])
@@ -149,23 +149,23 @@ named_step settings name (Some device) device_after reports e comes mid what new
       reports = reports;
       before = progress;
       after = ap (λ (x : Entry). x.progress) whole;
-      read = first_read new e.read (reports ++ HelloReport name ∷ []) reads_as (ap (λ (x : Entry). x.read) whole) (ap (λ (x : Entry). said_on x.progress) whole);
+      read = first_read new e.read (reports ++ HelloReport name ∷ []) reads_as (ap (λ (x : Entry). x.read) whole) (ap (λ (x : Entry). reports_given x.progress) whole);
     }))
 
-pub said_step : (settings : ServerSettings) (reports : List ReportRecord) (device : Option ℕ) (said : ReportRecord) (device_after : Option ℕ) (e : Entry) (comes : Step) (mid : Entry) (what : Ask) (new : Entry) → e.progress ≡ Link reports device → e.broken ≡ false → ParsesFirst e.read (reports ++ said ∷ [])
-    → StepsDevice (device_named settings) device said comes device_after → mid ≡ with_progress (Link (reports ++ said ∷ []) device_after) e → StepsTo comes mid what new → DeviceStep settings what e new
-said_step settings reports None (HelloReport name) device_after e comes mid what new progress sound reads_as is after steps = named_step settings name (device_named settings name) device_after reports e comes mid what new refl progress sound reads_as is after steps
-said_step settings reports None (MediaReport names) device_after e comes mid what new progress sound reads_as is after steps = absurd is
-said_step settings reports None ReadyReport device_after e comes mid what new progress sound reads_as is after steps = absurd is
-said_step settings reports None StopReport device_after e comes mid what new progress sound reads_as is after steps = absurd is
-said_step settings reports None (BusyReport time) device_after e comes mid what new progress sound reads_as is after steps = absurd is
-said_step settings reports None (PagesReport job printed) device_after e comes mid what new progress sound reads_as is after steps = absurd is
-said_step settings reports None (DoneReport job) device_after e comes mid what new progress sound reads_as is after steps = absurd is
-said_step settings reports None (FailReport job) device_after e comes mid what new progress sound reads_as is after steps = absurd is
-said_step settings reports None GoneReport device_after e comes mid what new progress sound reads_as is after steps = absurd is
-said_step settings reports (Some device) said device_after e comes mid what new progress sound reads_as ((it, same, is), named) after steps =
+pub step_reported : (settings : ServerSettings) (reports : List ReportRecord) (device : Option ℕ) (parsed : ReportRecord) (device_after : Option ℕ) (e : Entry) (comes : Step) (mid : Entry) (what : Ask) (new : Entry) → e.progress ≡ Link reports device → e.broken ≡ false → ParsesFirst e.read (reports ++ parsed ∷ [])
+    → StepsDevice (device_named settings) device parsed comes device_after → mid ≡ with_progress (Link (reports ++ parsed ∷ []) device_after) e → StepsTo comes mid what new → DeviceStep settings what e new
+step_reported settings reports None (HelloReport name) device_after e comes mid what new progress sound reads_as is after steps = named_step settings name (device_named settings name) device_after reports e comes mid what new refl progress sound reads_as is after steps
+step_reported settings reports None (MediaReport names) device_after e comes mid what new progress sound reads_as is after steps = absurd is
+step_reported settings reports None ReadyReport device_after e comes mid what new progress sound reads_as is after steps = absurd is
+step_reported settings reports None StopReport device_after e comes mid what new progress sound reads_as is after steps = absurd is
+step_reported settings reports None (BusyReport time) device_after e comes mid what new progress sound reads_as is after steps = absurd is
+step_reported settings reports None (PagesReport job printed) device_after e comes mid what new progress sound reads_as is after steps = absurd is
+step_reported settings reports None (DoneReport job) device_after e comes mid what new progress sound reads_as is after steps = absurd is
+step_reported settings reports None (FailReport job) device_after e comes mid what new progress sound reads_as is after steps = absurd is
+step_reported settings reports None GoneReport device_after e comes mid what new progress sound reads_as is after steps = absurd is
+step_reported settings reports (Some device) parsed device_after e comes mid what new progress sound reads_as ((it, same, is), named) after steps =
     let asks : (what ≡ ask.Report device it) × (new ≡ finishing false mid) = subst (λ (s : Step). StepsTo s mid what new) is steps in
-    let whole : new ≡ finishing false (with_progress (Link (reports ++ said ∷ []) (Some device)) e) = asks.1 ∙ ap (finishing false) (after ∙ ap (λ (d : Option ℕ). with_progress (Link (reports ++ said ∷ []) d) e) named) in
+    let whole : new ≡ finishing false (with_progress (Link (reports ++ parsed ∷ []) (Some device)) e) = asks.1 ∙ ap (finishing false) (after ∙ ap (λ (d : Option ℕ). with_progress (Link (reports ++ parsed ∷ []) d) e) named) in
     inr (inr (record {
       device = device;
       it = it;
@@ -173,11 +173,11 @@ said_step settings reports (Some device) said device_after e comes mid what new 
       reports = reports;
       before = progress;
       after = ap (λ (x : Entry). x.progress) whole ∙ ap (λ (r : ReportRecord). Link (reports ++ r ∷ []) (Some device)) (sym same);
-      read = first_read new e.read (reports ++ said ∷ []) reads_as (ap (λ (x : Entry). x.read) whole) (ap (λ (x : Entry). said_on x.progress) whole);
+      read = first_read new e.read (reports ++ parsed ∷ []) reads_as (ap (λ (x : Entry). x.read) whole) (ap (λ (x : Entry). reports_given x.progress) whole);
     }))
 
 pub device_step : (settings : ServerSettings) (reports : List ReportRecord) (device : Option ℕ) (e : Entry) (comes : Step) (mid : Entry) (what : Ask) (new : Entry) → e.progress ≡ Link reports device → e.broken ≡ false → ItemComes settings (Link reports device) e comes mid → StepsTo comes mid what new → DeviceStep settings what e new
-device_step settings reports device e comes mid what new progress sound (inl next) steps = said_step settings reports device next.said next.device_after e comes mid what new progress sound next.next next.comes next.after steps
+device_step settings reports device e comes mid what new progress sound (inl next) steps = step_reported settings reports device next.parsed next.device_after e comes mid what new progress sound next.next next.comes next.after steps
 device_step settings reports device e comes mid what new progress sound (inr (inl next)) steps =
     let breaks : (what ≡ ask.Fault device) × (new ≡ broken mid) = subst (λ (s : Step). StepsTo s mid what new) next.comes steps in
     inl (subst IsFine (sym breaks.0) tt, breaks_grows e mid new breaks.1 next.after)

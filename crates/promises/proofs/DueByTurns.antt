@@ -142,7 +142,7 @@ opening_plain Ipp id x is = record { counts = λ device counts. cc; lost = λ de
 opening_plain Lpd id x is = record { counts = λ device counts. cc; lost = λ device lost. cc; device = λ device named. cc; fresh = λ fresh. tt }
 opening_plain Devices id x is = record { counts = λ device counts. cc; lost = λ device lost. cc; device = λ device named. cc; fresh = λ fresh none. refl }
 
--- a client's connection begins with nothing said, asked or due
+-- a client's connection begins with nothing parsed, asked or due
 pub opening_progresses : (core : State) (door : Door) (id key : ℕ) (x : Option Entry) (e : Entry) → Some (opening_entry door id) ≡ Some e → ClientTalk e.progress → e.broken ≡ false → TalkedAs core key [] x e
 opening_progresses core door id key x e is of sound =
     let this : opening_entry door id ≡ e = one_entry (opening_entry door id) e is in
@@ -214,12 +214,12 @@ moves_turn moment =
     (moves_then true moment (AcceptsAt Lpd) (Then (AcceptsAt Devices) (Round moment)) (moves_accepts moment Lpd) (moves_then true moment (AcceptsAt Devices) (Round moment) (moves_accepts moment Devices) (moves_round moment)))))
 
 -- between turns no event gives a name
-said_between : (device : ℕ) (said : Report) → None ≡ hello_in false device said
-said_between device (report.Hello name) = refl
-said_between device said = refl
+parsed_between : (device : ℕ) (parsed : Report) → None ≡ hello_in false device parsed
+parsed_between device (report.Hello name) = refl
+parsed_between device parsed = refl
 
 none_between : (event : Event) → None ≡ named_by false event
-none_between (Is.Report device said) = said_between device said
+none_between (Is.Report device parsed) = parsed_between device parsed
 none_between event = refl
 
 pub between_answers : (moment request : ℕ) (reply : Option Effects) (bytes : List ℕ) → Moves false moment (Between.Answers request reply bytes)
@@ -242,7 +242,7 @@ body_comes moment body served l hs l' good (inr it) = goes_refused false moment 
 pub moves_action : (action : Action) (l l' : Ledger) → Good l → DoesAction action l l' → Goes (is_turn action) (moment_of action) l (happenings_of action) l'
 moves_action (Turned moment hs) l l' good it = moves_turn moment l hs l' good it
 moves_action (Served_body moment body answer hs) l l' good (served, same, it) = body_comes moment body served l hs l' good it
-moves_action (Reported moment device said hs) l l' good (what, same, it) = moves_unanswered false moment (Is.Report device what) (said_between device what) l hs l' good it
+moves_action (Reported moment device parsed hs) l l' good (what, same, it) = moves_unanswered false moment (Is.Report device what) (parsed_between device what) l hs l' good it
 moves_action (Ticked moment hs) l l' good it = moves_ticks false moment l hs l' good it
 
 -- ---- traces

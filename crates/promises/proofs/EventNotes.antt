@@ -33,8 +33,8 @@ module _ (note_of : Happening → List Note) (of_cancel : (cancel : Cancel) → 
       ∙ (flat_map-append note_of (map Notified (map Canceled cancels)) (map Notified later)
       ∙ (ap (λ (ns : List Note). ns ++ flat_map note_of (map Notified later)) (notified_cancels cancels) ∙ ap (λ (ns : List Note). map Canceled cancels ++ ns) is))
 
-  notified_as : (notes said : List Note) → notes ≡ said → flat_map note_of (map Notified said) ≡ said → flat_map note_of (map Notified notes) ≡ notes
-  notified_as notes said same is = subst (λ (ns : List Note). flat_map note_of (map Notified ns) ≡ ns) (sym same) is
+  notified_as : (notes parsed : List Note) → notes ≡ parsed → flat_map note_of (map Notified parsed) ≡ parsed → flat_map note_of (map Notified notes) ≡ notes
+  notified_as notes parsed same is = subst (λ (ns : List Note). flat_map note_of (map Notified ns) ≡ ns) (sym same) is
 
   notified_one : (note : Note) → note_of (Notified note) ≡ note ∷ [] → flat_map note_of (map Notified (note ∷ [])) ≡ note ∷ []
   notified_one note is = ap (λ (ns : List Note). ns ++ []) is

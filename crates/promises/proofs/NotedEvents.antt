@@ -412,14 +412,14 @@ module _ (moment : ℕ) where
   then_in f g l hs l' it came =
       subst (λ (ks : List Happening). NotifiedFrom came moment l ks l') (sym it.whole) (from_then came moment l it.prefix it.mid it.back l' (f l it.prefix it.mid it.first came) (g it.mid it.back l' it.second (after came it.prefix)))
 
-  abbrev IsSaid : Ledger → List Happening → Ledger → Type 0
-  IsSaid l hs l' = (came : Bool) → NotifiedFrom came moment l hs l'
+  abbrev IsParsed : Ledger → List Happening → Ledger → Type 0
+  IsParsed l hs l' = (came : Bool) → NotifiedFrom came moment l hs l'
 
   or_in : {R S : Rel} → Within R → Within S → Within (Or R S)
-  or_in {R} {S} = or_within IsSaid R S
+  or_in {R} {S} = or_within IsParsed R S
 
   if_in : (test : Bool) (R S : Rel) → Within R → Within S → Within (If test R S)
-  if_in = if_within IsSaid
+  if_in = if_within IsParsed
 
   nothing_in : Within Nothing
   nothing_in = quietly_in quiet_nothing
@@ -428,10 +428,10 @@ module _ (moment : ℕ) where
   joins_in R S = then_in {R = R} {S = S}
 
   many_in : (R : Rel) → Within R → Within (Many R)
-  many_in = many_within IsSaid nothing_in joins_in
+  many_in = many_within IsParsed nothing_in joins_in
 
   each_in : (n : ℕ) (R : ℕ → Rel) → ((i : ℕ) → Within (R i)) → Within (Each n R)
-  each_in = each_within IsSaid nothing_in joins_in
+  each_in = each_within IsParsed nothing_in joins_in
 
   polls_in : (poll : Poll) → Within (Polls poll)
   polls_in poll = quietly_in (quiet_polls poll)
@@ -479,8 +479,8 @@ module _ (moment : ℕ) where
 
   -- ---- devices that say their names
 
-  notifies_in : (device : ℕ) (said : ReportRecord) → Within (Hello.ReportComes moment device said)
-  notifies_in device said l hs l' (report, is, it) = reported_in device report l hs l' it
+  notifies_in : (device : ℕ) (parsed : ReportRecord) → Within (Hello.ReportComes moment device parsed)
+  notifies_in device parsed l hs l' (report, is, it) = reported_in device report l hs l' it
 
   gives_way_at_in : (key : ℕ) (o : Option Entry) → Within (Hello.IsSupersededAt key o)
   gives_way_at_in key None = nothing_in
@@ -635,7 +635,7 @@ module _ (moment : ℕ) where
 action_notified : (action : Action) (l l' : Ledger) → DoesAction action l l' → NotifiedFrom (begins_event action) (moment_of action) l (happenings_of action) l'
 action_notified (Turned moment hs) l l' it = turn_in moment l hs l' it true
 action_notified (Served_body moment body answer hs) l l' (served, is, it) = body_comes moment body served l hs l' it
-action_notified (Reported moment device said hs) l l' it = notifies_in moment device said l hs l' it true
+action_notified (Reported moment device parsed hs) l l' it = notifies_in moment device parsed l hs l' it true
 action_notified (Ticked moment hs) l l' it = ticks_in moment l hs l' it true
 
 -- ---- a trace

@@ -45,7 +45,7 @@ use Rattle.server.specs.Turn.{Ticks, Notes, is_tick_due, TicksIfDue, Covers, Rou
 use Rattle.server.specs.Law.{core_notes, moment_of, happenings_of, happenings_in}
 use Rattle.promises.specs.Answers.{ClientTalk}
 use Rattle.promises.specs.Orders.{is_turn}
-use Rattle.promises.specs.Delivered.{Came, AreRun, ComeAt, ComeOf, report_in, report_by, reports_by, said_on, IsReported, IsStateIn, IsNameIn, IsGreeted, IsRead, AreDelivered}
+use Rattle.promises.specs.Delivered.{Came, AreRun, ComeAt, ComeOf, report_in, report_by, reports_by, reports_given, IsReported, IsStateIn, IsNameIn, IsGreeted, IsRead, AreDelivered}
 use Rattle.promises.proofs.AnswerKinds.{EventOf}
 use Rattle.promises.proofs.SentToDevices.{no_true, one_entry}
 use Rattle.promises.proofs.StreamSteps.{silent_growth, silent_part, client_keeps}
@@ -168,14 +168,14 @@ module _ (turn : Bool) (moment : ℕ) where
   then_in : {R S : Rel} → Within R → Within S → Within (Then R S)
   then_in f g l hs l' it = goes_then turn moment l it.prefix it.mid it.back l' hs it.whole (f l it.prefix it.mid it.first) (g it.mid it.back l' it.second)
 
-  abbrev IsSaid : Ledger → List Happening → Ledger → Type 1
-  IsSaid l hs l' = Goes turn moment l hs l'
+  abbrev IsParsed : Ledger → List Happening → Ledger → Type 1
+  IsParsed l hs l' = Goes turn moment l hs l'
 
   or_in : {R S : Rel} → Within R → Within S → Within (Or R S)
-  or_in {R} {S} = or_within IsSaid R S
+  or_in {R} {S} = or_within IsParsed R S
 
   if_in : (test : Bool) (R S : Rel) → Within R → Within S → Within (If test R S)
-  if_in = if_within IsSaid
+  if_in = if_within IsParsed
 
   nothing_in : Within Nothing
   nothing_in = calmly_in calms_nothing
@@ -184,10 +184,10 @@ module _ (turn : Bool) (moment : ℕ) where
   joins_in R S = then_in {R = R} {S = S}
 
   many_in : (R : Rel) → Within R → Within (Many R)
-  many_in = many_within IsSaid nothing_in joins_in
+  many_in = many_within IsParsed nothing_in joins_in
 
   each_in : (n : ℕ) (R : ℕ → Rel) → ((i : ℕ) → Within (R i)) → Within (Each n R)
-  each_in = each_within IsSaid nothing_in joins_in
+  each_in = each_within IsParsed nothing_in joins_in
 
   chooses_in : (choice : Choice) → Within (Chooses choice)
   chooses_in choice = calmly_in (calms_choice choice)
@@ -342,8 +342,8 @@ record NameGiven (device : ℕ) (name : List ℕ) (key : ℕ) (d n : Entry) (l m
   progress : n.progress ≡ Link (reports ++ HelloReport name ∷ []) (Some device)
   read : IsRead n
 
-first_said : (device : ℕ) (name : List ℕ) (key : ℕ) (d n : Entry) (l m : Ledger) (s : NameGiven device name key d n l m) → Sound l → n.progress ≡ Link (HelloReport name ∷ []) (Some device)
-first_said device name key d n l m s sound = s.progress ∙ ap (λ (reports : List ReportRecord). Link (reports ++ HelloReport name ∷ []) (Some device)) ((subst SoundAt s.there (sound.each key)).0 s.reports s.before s.sound)
+first_reported : (device : ℕ) (name : List ℕ) (key : ℕ) (d n : Entry) (l m : Ledger) (s : NameGiven device name key d n l m) → Sound l → n.progress ≡ Link (HelloReport name ∷ []) (Some device)
+first_reported device name key d n l m s sound = s.progress ∙ ap (λ (reports : List ReportRecord). Link (reports ++ HelloReport name ∷ []) (Some device)) ((subst SoundAt s.there (sound.each key)).0 s.reports s.before s.sound)
 
 gives_name_alone : (moment device : ℕ) (name : List ℕ) (key : ℕ) (d n : Entry) (l : Ledger) (prefix : List Happening) (m : Ledger) (back : List Happening) (l' : Ledger) (hs : List Happening) → hs ≡ prefix ++ back → core_notes prefix ≡ [] → NameGiven device name key d n l m → IsAlone device key m
     → Unanswered moment (Is.Report device (report.Hello name)) m back l' → Goes true moment l hs l'
@@ -353,11 +353,11 @@ gives_name_alone moment device name key d n l prefix m back l' hs whole silent s
     (λ sound. sound_but key l l' closed others sound (subst SoundAt (sym now.1) (fresh_named device now.0 (ap device_of (progress ∙ s.progress)), now.2.reads s.read)))
     (λ sound of before r.
     reported_named of device key name before l l'
-    (record { d = d; f = now.0; there = s.there; nameless = ap device_of s.before; sound = s.sound; now = now.1; after = progress ∙ first_said device name key d n l m s sound; closed = closed })
+    (record { d = d; f = now.0; there = s.there; nameless = ap device_of s.before; sound = s.sound; now = now.1; after = progress ∙ first_reported device name key d n l m s sound; closed = closed })
     (λ k apart is. alone k apart (subst (IsDevice device) (sym (set_aside key n l m s.after k apart)) is)) others r)
     (λ Name names sound all.
     greeted_but Name key now.0 l l' closed (λ k apart e at. greeted_on Name l l' k (others k apart) all e at) now.1
-    (greeted_first Name device name now.0 (progress ∙ first_said device name key d n l m s sound) (names name device s.place)) all)
+    (greeted_first Name device name now.0 (progress ∙ first_reported device name key d n l m s sound) (names name device s.place)) all)
   where
     one : OneEvent moment (Is.Report device (report.Hello name)) outcome m back l'
     one = happened moment (Is.Report device (report.Hello name)) outcome m back l' it
@@ -381,10 +381,10 @@ open_as ended device (Some e) is = (e, refl, is.0)
 gives_way_at : (key : ℕ) (e : Entry) (o : Option Entry) (l : Ledger) (hs : List Happening) (l' : Ledger) → o ≡ Some e → IsSupersededAt key o l hs l' → (hs ≡ []) × (l' ≡ with_entry key (superseded_entry e) l)
 gives_way_at key e o l hs l' there it = subst (λ (x : Option Entry). IsSupersededAt key x l hs l') there it
 
-unnamed_said : (progress : PeerRecord) → said_on (unnamed progress) ≡ said_on progress
-unnamed_said (Http said closes body) = refl
-unnamed_said (Queue items session) = refl
-unnamed_said (Link reports device) = refl
+unnamed_reports : (progress : PeerRecord) → reports_given (unnamed progress) ≡ reports_given progress
+unnamed_reports (Http parsed closes body) = refl
+unnamed_reports (Queue items session) = refl
+unnamed_reports (Link reports device) = refl
 
 -- the connection is turned away: the device has another connection
 gives_name_again : (moment device : ℕ) (name : List ℕ) (key id : ℕ) (d n : Entry) (l : Ledger) (prefix : List Happening) (m : Ledger) (back : List Happening) (l' : Ledger) (hs : List Happening) → hs ≡ prefix ++ back → core_notes prefix ≡ [] → NameGiven device name key d n l m
@@ -406,7 +406,7 @@ gives_name_again moment device name key id d n l prefix m back l' hs whole silen
     grows = record {
       progress = inr (record { sound = s.sound; before = ap device_of s.before; after = unnamed_nameless n.progress; fresh = λ reports is unbroken. absurd (no_true true refl unbroken) });
       broken = λ is. refl;
-      reads = λ is. read_as n (superseded_entry n) (unnamed_said n.progress) refl s.read;
+      reads = λ is. read_as n (superseded_entry n) (unnamed_reports n.progress) refl s.read;
     }
 
     each : (k : ℕ) → Kept (l.entries k) (l'.entries k)
@@ -436,7 +436,7 @@ gives_name_over moment device name key other d n l prefix m back l' hs whole sil
   reported = λ sound of before r.
       reported_as of (before ++ notified_if of device (GoneReport ∷ HelloReport name ∷ [])) (before ++ reports_by of (one ∷ two ∷ [])) l' (ap (λ (reports : List ReportRecord). before ++ reports) (both_notified (device == of) GoneReport (HelloReport name)))
       (reported_over of device key other name before l l'
-      (record { d = d; f = now.0; there = s.there; nameless = ap device_of s.before; sound = s.sound; now = now.1; after = progress ∙ first_said device name key d n l m s sound; closed = closed })
+      (record { d = d; f = now.0; there = s.there; nameless = ap device_of s.before; sound = s.sound; now = now.1; after = progress ∙ first_reported device name key d n l m s sound; closed = closed })
       (record { o = old.0; g = up.0; apart = has.0; there = there; named = old.2; now = up.1; after = broken_stays (superseded_entry old.0) up.0 refl up.2; broke = up.2.broken refl; others = others }) r);
   greeted = λ Name names sound all.
       greeted_but Name key now.0 l l' closed
@@ -444,7 +444,7 @@ gives_name_over moment device name key other d n l prefix m back l' hs whole sil
       by_key k other
       (λ is. greeted_at_given Name e (ap l'.entries (sym is) ∙ at))
       (λ away. greeted_on Name l l' k (others k apart away) all e at))
-      now.1 (greeted_first Name device name now.0 (progress ∙ first_said device name key d n l m s sound) (names l.core name device (inl refl) s.place)) all;
+      now.1 (greeted_first Name device name now.0 (progress ∙ first_reported device name key d n l m s sound) (names l.core name device (inl refl) s.place)) all;
 }
   where
     last : Then (IsGone moment (Some device)) (GivesName moment device name) it.mid it.back l'
@@ -453,8 +453,8 @@ gives_name_over moment device name key other d n l prefix m back l' hs whole sil
     gone : Unanswered moment (Is.Report device report.Gone) it.mid last.prefix last.mid
     gone = last.first
 
-    said : Unanswered moment (Is.Report device (report.Hello name)) last.mid last.back l'
-    said = last.second
+    parsed : Unanswered moment (Is.Report device (report.Hello name)) last.mid last.back l'
+    parsed = last.second
 
     old : (e : Entry) × (m.entries other ≡ Some e) × (device_of e.progress ≡ Some device)
     old = open_as true device (m.entries other) has.1
@@ -471,14 +471,14 @@ gives_name_over moment device name key other d n l prefix m back l' hs whole sil
     first : OneEvent moment (Is.Report device report.Gone) gone.0 it.mid last.prefix last.mid
     first = happened moment (Is.Report device report.Gone) gone.0 it.mid last.prefix last.mid gone.1
 
-    second : OneEvent moment (Is.Report device (report.Hello name)) said.0 last.mid last.back l'
-    second = happened moment (Is.Report device (report.Hello name)) said.0 last.mid last.back l' said.1
+    second : OneEvent moment (Is.Report device (report.Hello name)) parsed.0 last.mid last.back l'
+    second = happened moment (Is.Report device (report.Hello name)) parsed.0 last.mid last.back l' parsed.1
 
     one : Came
     one = record { moment = moment; event = Is.Report device report.Gone; outcome = gone.0; notes = core_notes last.prefix; state = last.mid.core; in_turn = true }
 
     two : Came
-    two = record { moment = moment; event = Is.Report device (report.Hello name); outcome = said.0; notes = core_notes last.back; state = l'.core; in_turn = true }
+    two = record { moment = moment; event = Is.Report device (report.Hello name); outcome = parsed.0; notes = core_notes last.back; state = l'.core; in_turn = true }
 
     kept : KeptAll it.mid l'
     kept = kept_next it.mid last.mid l' first.kept second.kept
@@ -512,7 +512,7 @@ gives_name_over moment device name key other d n l prefix m back l' hs whole sil
         by_key k other
         (λ at.
         subst SoundAt (sym (ap l'.entries at))
-        (kept_sound (Some (superseded_entry old.0)) (l'.entries other) up ((λ reports is unbroken. absurd (no_true true refl unbroken)), read_as old.0 (superseded_entry old.0) (unnamed_said old.0.progress) refl (subst SoundAt there (sound.each other)).1)))
+        (kept_sound (Some (superseded_entry old.0)) (l'.entries other) up ((λ reports is unbroken. absurd (no_true true refl unbroken)), read_as old.0 (superseded_entry old.0) (unnamed_reports old.0.progress) refl (subst SoundAt there (sound.each other)).1)))
         (λ away. kept_sound (l.entries k) (l'.entries k) (others k apart away) (sound.each k)))
 
 greets_on : (moment device : ℕ) (name : List ℕ) (key id : ℕ) (d n : Entry) (l : Ledger) (prefix : List Happening) (m : Ledger) (back : List Happening) (l' : Ledger) (hs : List Happening) → hs ≡ prefix ++ back → core_notes prefix ≡ [] → NameGiven device name key d n l m → HandlesHello moment key id device name m back l' → Goes true moment l hs l'
@@ -542,7 +542,7 @@ device_acts moment key id what l prefix m back l' hs whole a (inr (inr s)) does 
     reports_on moment key what a.entry a.new l prefix m back l' hs whole (ap core_notes a.chosen) a.there a.after s (subst (λ (it : Ask). ActsOn moment key id it m back l') s.asks does)
 
 acts_by : (moment key id : ℕ) (what : Ask) (l : Ledger) (prefix : List Happening) (m : Ledger) (back : List Happening) (l' : Ledger) (hs : List Happening) → hs ≡ prefix ++ back → (a : Asks key id what l prefix m) → (progress : PeerRecord) → a.entry.progress ≡ progress → ActsOn moment key id what m back l' → Goes true moment l hs l'
-acts_by moment key id what l prefix m back l' hs whole a (Http said closes body) is does = client_acts moment key id what l prefix m back l' hs whole a (subst ClientTalk (sym is) tt) does
+acts_by moment key id what l prefix m back l' hs whole a (Http parsed closes body) is does = client_acts moment key id what l prefix m back l' hs whole a (subst ClientTalk (sym is) tt) does
 acts_by moment key id what l prefix m back l' hs whole a (Queue items session) is does = client_acts moment key id what l prefix m back l' hs whole a (subst ClientTalk (sym is) tt) does
 acts_by moment key id what l prefix m back l' hs whole a (Link reports device) is does =
     device_acts moment key id what l prefix m back l' hs whole a
@@ -692,7 +692,7 @@ module _ (moment : ℕ) where
 goes_action : (action : Action) (l l' : Ledger) → DoesAction action l l' → Goes (is_turn action) (moment_of action) l (happenings_of action) l'
 goes_action (Turned moment hs) l l' it = turn_in moment l hs l' it
 goes_action (Served_body moment body answer hs) l l' (served, same, it) = body_comes_in moment body served l hs l' it
-goes_action (Reported moment device said hs) l l' (what, same, (outcome, it)) = goes_event false moment (Is.Report device what) outcome (λ of. refl) l hs l' it
+goes_action (Reported moment device parsed hs) l l' (what, same, (outcome, it)) = goes_event false moment (Is.Report device what) outcome (λ of. refl) l hs l' it
 goes_action (Ticked moment hs) l l' it = ticks_in false moment l hs l' it
 
 -- ---- a trace

@@ -492,7 +492,7 @@ brings F moment key event outcome l hs l' happens = record { spared = one; it = 
       each = λ other apart. each other;
     }
 
--- ---- the connection served bears the name that it said
+-- ---- the connection served bears the name that it gave
 
 abbrev NoHello : Ask → Type 0
 NoHello (ask.Hello device name) = ⊥
@@ -506,7 +506,7 @@ asked_here key id what l hs l' a = ap (λ (x : Ledger). x.entries key) a.after �
 
 -- the classes of an ask by the peer
 device_asked : (settings : ServerSettings) (what : Ask) (e new : Entry) → AsksNext settings what e new → (progress : PeerRecord) → e.progress ≡ progress → IsFine what ⊎ DeviceStep settings what e new
-device_asked settings what e new a (Http said closes body) is = inl (step_fine a.comes a.mid what new (client_keeps settings (Http said closes body) e a.comes a.mid tt (subst ClientTalk (sym is) tt) (subst (λ (t : PeerRecord). ItemComes settings t e a.comes a.mid) is a.takes_item)).0 a.steps)
+device_asked settings what e new a (Http parsed closes body) is = inl (step_fine a.comes a.mid what new (client_keeps settings (Http parsed closes body) e a.comes a.mid tt (subst ClientTalk (sym is) tt) (subst (λ (t : PeerRecord). ItemComes settings t e a.comes a.mid) is a.takes_item)).0 a.steps)
 device_asked settings what e new a (Queue items session) is = inl (step_fine a.comes a.mid what new (client_keeps settings (Queue items session) e a.comes a.mid tt (subst ClientTalk (sym is) tt) (subst (λ (t : PeerRecord). ItemComes settings t e a.comes a.mid) is a.takes_item)).0 a.steps)
 device_asked settings what e new a (Link reports device) is = inr (device_step settings reports device e a.comes a.mid what new is (not_broken e.draining e.broken a.counts) (subst (λ (t : PeerRecord). ItemComes settings t e a.comes a.mid) is a.takes_item) a.steps)
 
@@ -563,7 +563,7 @@ module _ (moment key : ℕ) where
   kept_fine id (ask.Fault device) fine l hs l' it = (calms_notifies (DeviceRefused id (why.Fault device)) refl l hs l' it).kept
 
   acts_by : (device id : ℕ) (what : Ask) (l : Ledger) (prefix : List Happening) (m : Ledger) (back : List Happening) (l' : Ledger) (a : Asks key id what l prefix m) → device_of a.entry.progress ≡ Some device → ActsOn moment key id what m back l' → (progress : PeerRecord) → a.entry.progress ≡ progress → Bears key l' device
-  acts_by device id what l prefix m back l' a named does (Http said closes body) is = let never : None ≡ Some device = sym (ap device_of is) ∙ named in cc
+  acts_by device id what l prefix m back l' a named does (Http parsed closes body) is = let never : None ≡ Some device = sym (ap device_of is) ∙ named in cc
   acts_by device id what l prefix m back l' a named does (Queue items session) is = let never : None ≡ Some device = sym (ap device_of is) ∙ named in cc
   acts_by device id what l prefix m back l' a named does (Link reports o) is = by (device_step l.core.settings reports o a.entry a.asks.comes a.asks.mid what a.new is (not_broken a.entry.draining a.entry.broken a.asks.counts) (subst (λ (t : PeerRecord). ItemComes l.core.settings t a.entry a.asks.comes a.asks.mid) is a.asks.takes_item) a.asks.steps)
     where

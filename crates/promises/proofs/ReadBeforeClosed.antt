@@ -241,7 +241,7 @@ module _ (moment : ℕ) where
 ends_action : (action : Action) (l l' : Ledger) → AllActedOn l → DoesAction action l l' → EndActedOn l → EndActedOn l'
 ends_action (Turned moment hs) l l' acted_on it = ends_turn moment l hs l' acted_on it
 ends_action (Served_body moment body answer hs) l l' acted_on (served, same, it) = ends_comes moment body served l hs l' it
-ends_action (Reported moment device said hs) l l' acted_on (what, same, it) = ends_unanswered moment (Is.Report device what) l hs l' it
+ends_action (Reported moment device parsed hs) l l' acted_on (what, same, it) = ends_unanswered moment (Is.Report device what) l hs l' it
 ends_action (Ticked moment hs) l l' acted_on it = ends_ticks moment l hs l' it
 
 ends_trace : (trace : Trace) (l l' : Ledger) → AllActedOn l → Runs trace l l' → EndActedOn l → EndActedOn l'

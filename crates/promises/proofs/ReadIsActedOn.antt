@@ -262,7 +262,7 @@ body_comes moment body served l hs l' acted_on (inr it) = keeps_same l l' (ap (�
 pub keeps_action : (action : Action) (l l' : Ledger) → AllActedOn l → DoesAction action l l' → AllActedOn l'
 keeps_action (Turned moment hs) l l' acted_on it = keeps_turn moment l hs l' acted_on it
 keeps_action (Served_body moment body answer hs) l l' acted_on (served, same, it) = body_comes moment body served l hs l' acted_on it
-keeps_action (Reported moment device said hs) l l' acted_on (what, same, it) = keeps_unanswered moment (Is.Report device what) l hs l' acted_on it
+keeps_action (Reported moment device parsed hs) l l' acted_on (what, same, it) = keeps_unanswered moment (Is.Report device what) l hs l' acted_on it
 keeps_action (Ticked moment hs) l l' acted_on it = keeps_ticks moment l hs l' acted_on it
 
 keeps_trace : (trace : Trace) (l l' : Ledger) → AllActedOn l → Runs trace l l' → AllActedOn l'

@@ -84,17 +84,17 @@ module _ (steps : StepsOnce) (queries : SameQueries) where
   greets moment key id device name l hs rest a ks more b e c d (inr (inr (old, is, p))) (inr (inl (other, its, q))) = one_ending device key other old l its is
   greets moment key id device name l hs rest a ks more b e c d (inr (inr (old, is, p))) (inr (inr (other, its, q))) = (turned_away key id device).one l hs rest a ks more b e c d p q
 
-  same_report : (moment device other : ℕ) (one said : Report) → device ≡ other → report_of one ≡ report_of said → Same (Unanswered moment (Is.Report device one)) (Unanswered moment (Is.Report other said))
-  same_report moment device other one said same reads_as = unanswered_same steps moment (Is.Report device one) (Is.Report other said) (same, reads_as) refl (λ s. tt) (λ s. tt)
+  same_report : (moment device other : ℕ) (one parsed : Report) → device ≡ other → report_of one ≡ report_of parsed → Same (Unanswered moment (Is.Report device one)) (Unanswered moment (Is.Report other parsed))
+  same_report moment device other one parsed same reads_as = unanswered_same steps moment (Is.Report device one) (Is.Report other parsed) (same, reads_as) refl (λ s. tt) (λ s. tt)
 
-  pub same_reports : (moment device : ℕ) (said : ReportRecord) → One (ReportComes moment device said)
-  same_reports moment device said = record { one = λ l hs rest a ks more b e c d (one, is, p) (other, its, q). (same_report moment device device one other refl (is ∙ sym its)).one l hs rest a ks more b e c d p q }
+  pub same_reports : (moment device : ℕ) (parsed : ReportRecord) → One (ReportComes moment device parsed)
+  same_reports moment device parsed = record { one = λ l hs rest a ks more b e c d (one, is, p) (other, its, q). (same_report moment device device one other refl (is ∙ sym its)).one l hs rest a ks more b e c d p q }
 
   -- ---- what a connection asks
 
-  same_events : (moment key id : ℕ) (who other : Client) (event said : Event) → who ≡ other → SameEvent event said → Same (ActsOn moment key id (ask.Event who event)) (ActsOn moment key id (ask.Event other said))
-  same_events moment key id who other event said same reads_as =
-      subst (λ (k : Client). Same (ActsOn moment key id (ask.Event who event)) (ActsOn moment key id (ask.Event k said))) same (same_answered steps moment key id who event said reads_as (queries event said reads_as))
+  same_events : (moment key id : ℕ) (who other : Client) (event parsed : Event) → who ≡ other → SameEvent event parsed → Same (ActsOn moment key id (ask.Event who event)) (ActsOn moment key id (ask.Event other parsed))
+  same_events moment key id who other event parsed same reads_as =
+      subst (λ (k : Client). Same (ActsOn moment key id (ask.Event who event)) (ActsOn moment key id (ask.Event k parsed))) same (same_answered steps moment key id who event parsed reads_as (queries event parsed reads_as))
 
   does_one : (moment key id : ℕ) (what : Ask) → One (ActsOn moment key id what)
   does_one moment key id ask.Nothing = same_nothing
@@ -103,14 +103,14 @@ module _ (steps : StepsOnce) (queries : SameQueries) where
   does_one moment key id (ask.Unread request) = same_then (same_notifies (Refused At.Event (Some id))) (same_status key TemporaryError request)
   does_one moment key id (ask.Lost which) = same_then (same_notifies (Refused (place_of_part which) (Some id))) (same_enqueues key (1 ∷ []))
   does_one moment key id (ask.Hello device name) = record { one = greets moment key id device name }
-  does_one moment key id (ask.Report device said) = one_report steps moment device said
+  does_one moment key id (ask.Report device parsed) = one_report steps moment device parsed
   does_one moment key id (ask.UnknownDevice name) = same_notifies (DeviceRefused id (why.UnknownName name))
   does_one moment key id (ask.Fault device) = same_notifies (DeviceRefused id (why.Fault device))
 
-  as_one : (moment key id : ℕ) (what said : Ask) → what ≡ said → Same (ActsOn moment key id what) (ActsOn moment key id said)
-  as_one moment key id what said same = subst (λ (x : Ask). Same (ActsOn moment key id what) (ActsOn moment key id x)) same (does_one moment key id what)
+  as_one : (moment key id : ℕ) (what parsed : Ask) → what ≡ parsed → Same (ActsOn moment key id what) (ActsOn moment key id parsed)
+  as_one moment key id what parsed same = subst (λ (x : Ask). Same (ActsOn moment key id what) (ActsOn moment key id x)) same (does_one moment key id what)
 
-  pub same_does : (moment key id : ℕ) (what said : Ask) → SameAsk what said → Same (ActsOn moment key id what) (ActsOn moment key id said)
+  pub same_does : (moment key id : ℕ) (what parsed : Ask) → SameAsk what parsed → Same (ActsOn moment key id what) (ActsOn moment key id parsed)
   same_does moment key id (ask.Event who event) (ask.Event other acted_on) same = same_events moment key id who other event acted_on same.0 same.1
   same_does moment key id (ask.Report device one) (ask.Report other acted_on) same = same_report moment device other one acted_on same.0 same.1
-  same_does moment key id what said same = as_one moment key id what said same
+  same_does moment key id what parsed same = as_one moment key id what parsed same

@@ -138,25 +138,25 @@ module _ (steps : StepsOnce) where
   same_orders None None same = same_nothing
   same_orders one other same = absurd same
 
-  decided_same : (moment : ℕ) (event other : Event) (outcome said : Outcome) (l : Ledger) (hs rest : List Happening) (a : Ledger) (ks more : List Happening) (b : Ledger) → SameEvent event other → is_query event ≡ is_query other → IsKept outcome → IsKept said
-      → keyed hs ++ rest ≡ keyed ks ++ more → Decides moment event outcome l hs a → Decides moment other said l ks b → SameOutcome outcome said × (keyed hs ≡ keyed ks) × (a ≡ b)
-  decided_same moment event other outcome said l hs rest a ks more b same query kept enqueues e p q =
+  decided_same : (moment : ℕ) (event other : Event) (outcome parsed : Outcome) (l : Ledger) (hs rest : List Happening) (a : Ledger) (ks more : List Happening) (b : Ledger) → SameEvent event other → is_query event ≡ is_query other → IsKept outcome → IsKept parsed
+      → keyed hs ++ rest ≡ keyed ks ++ more → Decides moment event outcome l hs a → Decides moment other parsed l ks b → SameOutcome outcome parsed × (keyed hs ≡ keyed ks) × (a ≡ b)
+  decided_same moment event other outcome parsed l hs rest a ks more b same query kept enqueues e p q =
       let left : keyed hs ≡ map Notified p.notes = decides_keyed outcome hs p.notes p.notified in
-      let right : keyed ks ≡ map Notified q.notes = decides_keyed said ks q.notes q.notified in
+      let right : keyed ks ≡ map Notified q.notes = decides_keyed parsed ks q.notes q.notified in
       let both : map Notified p.notes ++ rest ≡ map Notified q.notes ++ more = sym (ap (λ (xs : List Happening). xs ++ rest) left) ∙ (e ∙ ap (λ (xs : List Happening). xs ++ more) right) in
-      let way = handled_one steps moment event other l.core outcome said p.notes q.notes p.state q.state rest more same query kept enqueues both p.handles q.handles in (
+      let way = handled_one steps moment event other l.core outcome parsed p.notes q.notes p.state q.state rest more same query kept enqueues both p.handles q.handles in (
         way.outcome,
         left ∙ (ap (λ (ns : List Note). map Notified ns) way.notes_are ∙ sym right),
         p.after ∙ (ap (λ (s : State). record l { core = s; undispatched = undispatched_after outcome l.undispatched }) way.state
-            ∙ (ap (λ (t : Bool). record l { core = q.state; undispatched = t }) (same_undispatched steps outcome said l.undispatched way.outcome) ∙ sym q.after)),
+            ∙ (ap (λ (t : Bool). record l { core = q.state; undispatched = t }) (same_undispatched steps outcome parsed l.undispatched way.outcome) ∙ sym q.after)),
       )
 
-  happened_same : (moment : ℕ) (event other : Event) (outcome said : Outcome) (l : Ledger) (hs rest : List Happening) (a : Ledger) (ks more : List Happening) (b : Ledger) → SameEvent event other → is_query event ≡ is_query other → IsKept outcome → IsKept said
-      → keyed hs ++ rest ≡ keyed ks ++ more → Calm hs → Calm ks → Happens moment event outcome l hs a → Happens moment other said l ks b → SameOutcome outcome said × (keyed hs ≡ keyed ks) × (a ≡ b)
-  happened_same moment event other outcome said l hs rest a ks more b same query kept enqueues e c d p q =
-      same_then_by (Decides moment event outcome) (Decides moment other said) (Orders outcome) (Orders said) l hs rest a ks more b e c d p q
-      (λ left right both calm still. decided_same moment event other outcome said l p.prefix left p.mid q.prefix right q.mid same query kept enqueues both p.first q.first)
-      (λ way. same_orders outcome said way)
+  happened_same : (moment : ℕ) (event other : Event) (outcome parsed : Outcome) (l : Ledger) (hs rest : List Happening) (a : Ledger) (ks more : List Happening) (b : Ledger) → SameEvent event other → is_query event ≡ is_query other → IsKept outcome → IsKept parsed
+      → keyed hs ++ rest ≡ keyed ks ++ more → Calm hs → Calm ks → Happens moment event outcome l hs a → Happens moment other parsed l ks b → SameOutcome outcome parsed × (keyed hs ≡ keyed ks) × (a ≡ b)
+  happened_same moment event other outcome parsed l hs rest a ks more b same query kept enqueues e c d p q =
+      same_then_by (Decides moment event outcome) (Decides moment other parsed) (Orders outcome) (Orders parsed) l hs rest a ks more b e c d p q
+      (λ left right both calm still. decided_same moment event other outcome parsed l p.prefix left p.mid q.prefix right q.mid same query kept enqueues both p.first q.first)
+      (λ way. same_orders outcome parsed way)
 
   pub unanswered_same : (moment : ℕ) (event other : Event) → SameEvent event other → is_query event ≡ is_query other → ((s : State) → TakesNoMemory event moment s) → ((s : State) → TakesNoMemory other moment s) → Same (Unanswered moment event) (Unanswered moment other)
   unanswered_same moment event other same query light easy = record {
@@ -174,9 +174,9 @@ module _ (steps : StepsOnce) where
   -- an event and its answer; where the event was dropped, memory was refused
   pub answered_same : (moment : ℕ) (event other : Event) (Q R : Option Effects → Rel) → SameEvent event other → is_query event ≡ is_query other → Refuses (Q None) → Refuses (R None) → ((one two : Effects) → SameReply one two → Same (Q (Some one)) (R (Some two)))
       → Same (λ l hs a. (outcome : Outcome) × Then (Happens moment event outcome) (Q (effects_of outcome)) l hs a) (λ l hs a. (outcome : Outcome) × Then (Happens moment other outcome) (R (effects_of outcome)) l hs a)
-  answered_same moment event other Q R same query refuses refuse answered = record { one = λ l hs rest a ks more b e c d (outcome, p) (said, q). by_kind outcome said l hs rest a ks more b e c d (kept_or outcome) (kept_or said) p q }
+  answered_same moment event other Q R same query refuses refuse answered = record { one = λ l hs rest a ks more b e c d (outcome, p) (parsed, q). by_kind outcome parsed l hs rest a ks more b e c d (kept_or outcome) (kept_or parsed) p q }
     where
-      replies : (outcome said : Outcome) → SameOutcome outcome said → IsKept outcome → Same (Q (effects_of outcome)) (R (effects_of said))
+      replies : (outcome parsed : Outcome) → SameOutcome outcome parsed → IsKept outcome → Same (Q (effects_of outcome)) (R (effects_of parsed))
       replies (Some one) (Some two) way kept = answered one.effects two.effects way.effects_are
       replies None None way kept = absurd kept
       replies one two way kept = absurd way
@@ -185,20 +185,20 @@ module _ (steps : StepsOnce) where
       never x S outcome l hs a refused is it calm =
           let last : S None it.mid it.back a = subst (λ (o : Outcome). S (effects_of o) it.mid it.back a) is it.second in refused.never it.mid it.back a last (calm_last hs it.prefix it.back it.whole calm)
 
-      by_kind : (outcome said : Outcome) (l : Ledger) (hs rest : List Happening) (a : Ledger) (ks more : List Happening) (b : Ledger) → keyed hs ++ rest ≡ keyed ks ++ more → Calm hs → Calm ks → IsKept outcome ⊎ (outcome ≡ None) → IsKept said ⊎ (said ≡ None)
-          → Then (Happens moment event outcome) (Q (effects_of outcome)) l hs a → Then (Happens moment other said) (R (effects_of said)) l ks b → (keyed hs ≡ keyed ks) × (a ≡ b)
-      by_kind outcome said l hs rest a ks more b e c d (inl kept) (inl enqueues) p q =
-          let it = same_then_by (Happens moment event outcome) (Happens moment other said) (Q (effects_of outcome)) (R (effects_of said)) l hs rest a ks more b e c d p q
-          (λ left right both calm still. happened_same moment event other outcome said l p.prefix left p.mid q.prefix right q.mid same query kept enqueues both calm still p.first q.first) (λ way. replies outcome said way kept) in
+      by_kind : (outcome parsed : Outcome) (l : Ledger) (hs rest : List Happening) (a : Ledger) (ks more : List Happening) (b : Ledger) → keyed hs ++ rest ≡ keyed ks ++ more → Calm hs → Calm ks → IsKept outcome ⊎ (outcome ≡ None) → IsKept parsed ⊎ (parsed ≡ None)
+          → Then (Happens moment event outcome) (Q (effects_of outcome)) l hs a → Then (Happens moment other parsed) (R (effects_of parsed)) l ks b → (keyed hs ≡ keyed ks) × (a ≡ b)
+      by_kind outcome parsed l hs rest a ks more b e c d (inl kept) (inl enqueues) p q =
+          let it = same_then_by (Happens moment event outcome) (Happens moment other parsed) (Q (effects_of outcome)) (R (effects_of parsed)) l hs rest a ks more b e c d p q
+          (λ left right both calm still. happened_same moment event other outcome parsed l p.prefix left p.mid q.prefix right q.mid same query kept enqueues both calm still p.first q.first) (λ way. replies outcome parsed way kept) in
           (it.1, it.2)
-      by_kind outcome said l hs rest a ks more b e c d (inr is) its p q = absurd (never event Q outcome l hs a refuses is p c)
-      by_kind outcome said l hs rest a ks more b e c d (inl kept) (inr is) p q = absurd (never other R said l ks b refuse is q d)
+      by_kind outcome parsed l hs rest a ks more b e c d (inr is) its p q = absurd (never event Q outcome l hs a refuses is p c)
+      by_kind outcome parsed l hs rest a ks more b e c d (inl kept) (inr is) p q = absurd (never other R parsed l ks b refuse is q d)
 
 -- ---- answers
 
 replies_one : (key id request : ℕ) (query : Bool) (one other : IppResponse) → SameIppAnswer one other → (l : Ledger) (hs rest : List Happening) (a : Ledger) (ks more : List Happening) (b : Ledger) → keyed hs ++ rest ≡ keyed ks ++ more → Calm hs → Calm ks → Ans.RepliesWith key id request query (responds.Ipp one) l hs a → Ans.RepliesWith key id request query (responds.Ipp other) l ks b → (keyed hs ≡ keyed ks) × (a ≡ b)
-replies_one key id request query one other same l hs rest a ks more b e c d (inl (bytes, is, p)) (inl (said, its, q)) =
-    (same_then (same_chooses Found) (same_reply key bytes)).one l hs rest a ks more b e c d p (subst (λ (x : List ℕ). Then (Chooses Found) (EnqueuesResponse key x) l ks b) (sym (same_bytes one other request bytes said same is its)) q)
+replies_one key id request query one other same l hs rest a ks more b e c d (inl (bytes, is, p)) (inl (parsed, its, q)) =
+    (same_then (same_chooses Found) (same_reply key bytes)).one l hs rest a ks more b e c d p (subst (λ (x : List ℕ). Then (Chooses Found) (EnqueuesResponse key x) l ks b) (sym (same_bytes one other request bytes parsed same is its)) q)
 replies_one key id request query one other same l hs rest a ks more b e c d (inr p) q = absurd ((refuses_then (Notifies (Refused At.Reply (Some id))) (If query (EnqueuesStatus key TemporaryError request) (Breaks key)) (refuses_notifies At.Reply (Some id))).never l hs a p c)
 replies_one key id request query one other same l hs rest a ks more b e c d (inl p) (inr q) = absurd ((refuses_then (Notifies (Refused At.Reply (Some id))) (If query (EnqueuesStatus key TemporaryError request) (Breaks key)) (refuses_notifies At.Reply (Some id))).never l ks b q d)
 
@@ -247,14 +247,14 @@ same_answered steps moment key id who event other same query =
 
 -- ---- a body that comes without HTTP
 
-answers_one : (request : ℕ) (one other : Effects) (bytes said : List ℕ) (l : Ledger) (hs rest : List Happening) (a : Ledger) (ks more : List Happening) (b : Ledger) → keyed hs ++ rest ≡ keyed ks ++ more → Calm hs → Calm ks → Between.Answers request (Some one) bytes l hs a → Between.Answers request (Some other) said l ks b → (keyed hs ≡ keyed ks) × (a ≡ b)
-answers_one request one other bytes said l hs rest a ks more b e c d (inl (are, p)) (inl (were, q)) = (same_chooses Found).one l hs rest a ks more b e c d p q
-answers_one request one other bytes said l hs rest a ks more b e c d (inr p) q = absurd ((refuses_notifies At.Reply None).never l hs a p c)
-answers_one request one other bytes said l hs rest a ks more b e c d (inl p) (inr q) = absurd ((refuses_notifies At.Reply None).never l ks b q d)
+answers_one : (request : ℕ) (one other : Effects) (bytes parsed : List ℕ) (l : Ledger) (hs rest : List Happening) (a : Ledger) (ks more : List Happening) (b : Ledger) → keyed hs ++ rest ≡ keyed ks ++ more → Calm hs → Calm ks → Between.Answers request (Some one) bytes l hs a → Between.Answers request (Some other) parsed l ks b → (keyed hs ≡ keyed ks) × (a ≡ b)
+answers_one request one other bytes parsed l hs rest a ks more b e c d (inl (are, p)) (inl (were, q)) = (same_chooses Found).one l hs rest a ks more b e c d p q
+answers_one request one other bytes parsed l hs rest a ks more b e c d (inr p) q = absurd ((refuses_notifies At.Reply None).never l hs a p c)
+answers_one request one other bytes parsed l hs rest a ks more b e c d (inl p) (inr q) = absurd ((refuses_notifies At.Reply None).never l ks b q d)
 
-pub same_body : (steps : StepsOnce) (moment request : ℕ) (event : Event) (bytes said : List ℕ) → SameEvent event event → Same (Between.IsAnswered moment request event bytes) (Between.IsAnswered moment request event said)
-same_body steps moment request event bytes said same =
-    answered_same steps moment event event (λ reply. Between.Answers request reply bytes) (λ reply. Between.Answers request reply said) same refl (refuses_between bytes) (refuses_between said) (λ one two reads_as. record { one = answers_one request one two bytes said })
+pub same_body : (steps : StepsOnce) (moment request : ℕ) (event : Event) (bytes parsed : List ℕ) → SameEvent event event → Same (Between.IsAnswered moment request event bytes) (Between.IsAnswered moment request event parsed)
+same_body steps moment request event bytes parsed same =
+    answered_same steps moment event event (λ reply. Between.Answers request reply bytes) (λ reply. Between.Answers request reply parsed) same refl (refuses_between bytes) (refuses_between parsed) (λ one two reads_as. record { one = answers_one request one two bytes parsed })
   where
     refuses_between : (text : List ℕ) → Refuses (Between.Answers request None text)
     refuses_between text = refuses_just (Between.Answers request None text) (Notified (Refused At.Event None)) refl (λ l hs a it. it.0)

@@ -37,20 +37,20 @@ use Rattle.server.specs.Acting.{place_of, place_of_part}
 
 -- the entry after these bytes of a body were taken
 abbrev further : List HttpElement → Bool → List ℕ → List ℕ → Entry → Entry
-further said closes body bytes e = record e { progress = Http (said ++ map HasByte bytes) closes (body ++ bytes); draining = false }
+further parsed closes body bytes e = record e { progress = Http (parsed ++ map HasByte bytes) closes (body ++ bytes); draining = false }
 
 -- these bytes of a body were taken on the connection under a key, and nothing else changed
 record IsPart (key : ℕ) (bytes : List ℕ) (l l' : Ledger) : Type 0 where
   e : Entry
-  said : List HttpElement
+  parsed : List HttpElement
   closes : Bool
   body : List ℕ
   there : l.entries key ≡ Some e
   sound : e.broken ≡ false
   flows : e.draining ≡ false
-  progress : e.progress ≡ Http said closes body
-  first : ParsesFirst e.read (said ++ map HasByte bytes)
-  after : l' ≡ with_entry key (further said closes body bytes e) l
+  progress : e.progress ≡ Http parsed closes body
+  first : ParsesFirst e.read (parsed ++ map HasByte bytes)
+  after : l' ≡ with_entry key (further parsed closes body bytes e) l
 
 entry_if : (t : Bool) (x y z : Option Entry) → (if t then x else (if t then y else z)) ≡ (if t then x else z)
 entry_if true x y z = refl
@@ -80,10 +80,10 @@ map_append (x ∷ p) r = ap (λ (hs : List HttpElement). HasByte x ∷ hs) (map_
 part_none : (key : ℕ) (l l' : Ledger) → IsPart key [] l l' → l' ≡ l
 part_none key l l' p = p.after ∙ (ap (λ (x : Entry). with_entry key x l) unchanged ∙ with_same key p.e l p.there)
   where
-    unchanged : further p.said p.closes p.body [] p.e ≡ p.e
+    unchanged : further p.parsed p.closes p.body [] p.e ≡ p.e
     unchanged =
-        ap (λ (said : List HttpElement). record p.e { progress = Http said p.closes (p.body ++ []); draining = false }) (append-nil p.said)
-        ∙ (ap (λ (body : List ℕ). record p.e { progress = Http p.said p.closes body; draining = false }) (append-nil p.body)
+        ap (λ (parsed : List HttpElement). record p.e { progress = Http parsed p.closes (p.body ++ []); draining = false }) (append-nil p.parsed)
+        ∙ (ap (λ (body : List ℕ). record p.e { progress = Http p.parsed p.closes body; draining = false }) (append-nil p.body)
         ∙ (ap (λ (progress : PeerRecord). record p.e { progress = progress; draining = false }) (sym p.progress) ∙ ap (λ (t : Bool). record p.e { draining = t }) (sym p.flows)))
 
 broken_if : (t : Bool) (x y : Option Entry) → (IsBroken x → ⊥) → (IsBroken y → ⊥) → IsBroken (if t then x else y) → ⊥
@@ -96,51 +96,51 @@ untrue false p q = cc
 
 part_sound : (key : ℕ) (bytes : List ℕ) (l l' : Ledger) → IsPart key bytes l l' → NoneBroken l → NoneBroken l'
 part_sound key bytes l l' p none other is =
-    broken_if (other == key) (Some (further p.said p.closes p.body bytes p.e)) (l.entries other) (λ lost. untrue p.e.broken p.sound lost) (none other) (subst (λ (x : Ledger). IsBroken (x.entries other)) p.after is)
+    broken_if (other == key) (Some (further p.parsed p.closes p.body bytes p.e)) (l.entries other) (λ lost. untrue p.e.broken p.sound lost) (none other) (subst (λ (x : Ledger). IsBroken (x.entries other)) p.after is)
 
--- the same part by other names of the entry and what was said
-record As (key : ℕ) (bytes : List ℕ) (l l' : Ledger) (e : Entry) (said : List HttpElement) (closes : Bool) (body : List ℕ) : Type 0 where
-  first : ParsesFirst e.read (said ++ map HasByte bytes)
-  after : l' ≡ with_entry key (further said closes body bytes e) l
+-- the same part by other names of the entry and what was parsed
+record As (key : ℕ) (bytes : List ℕ) (l l' : Ledger) (e : Entry) (parsed : List HttpElement) (closes : Bool) (body : List ℕ) : Type 0 where
+  first : ParsesFirst e.read (parsed ++ map HasByte bytes)
+  after : l' ≡ with_entry key (further parsed closes body bytes e) l
 
-one_http : (said other : List HttpElement) (closes ends : Bool) (body text : List ℕ) → Http said closes body ≡ Http other ends text → (said ≡ other) × (closes ≡ ends) × (body ≡ text)
-one_http said other closes ends body text same = (cc, cc, cc)
+one_http : (parsed other : List HttpElement) (closes ends : Bool) (body text : List ℕ) → Http parsed closes body ≡ Http other ends text → (parsed ≡ other) × (closes ≡ ends) × (body ≡ text)
+one_http parsed other closes ends body text same = (cc, cc, cc)
 
-seen_as : (key : ℕ) (bytes : List ℕ) (l l' : Ledger) → (p : IsPart key bytes l l') → (e : Entry) (said : List HttpElement) (closes : Bool) (body : List ℕ) → l.entries key ≡ Some e → e.progress ≡ Http said closes body → As key bytes l l' e said closes body
-seen_as key bytes l l' p e said closes body there progress =
-    subst (λ (x : Entry). As key bytes l l' x said closes body) entry
+seen_as : (key : ℕ) (bytes : List ℕ) (l l' : Ledger) → (p : IsPart key bytes l l') → (e : Entry) (parsed : List HttpElement) (closes : Bool) (body : List ℕ) → l.entries key ≡ Some e → e.progress ≡ Http parsed closes body → As key bytes l l' e parsed closes body
+seen_as key bytes l l' p e parsed closes body there progress =
+    subst (λ (x : Entry). As key bytes l l' x parsed closes body) entry
     (subst (λ (x : List HttpElement). As key bytes l l' p.e x closes body) parts.0
-    (subst (λ (t : Bool). As key bytes l l' p.e p.said t body) parts.1 (subst (λ (x : List ℕ). As key bytes l l' p.e p.said p.closes x) parts.2 (record { first = p.first; after = p.after }))))
+    (subst (λ (t : Bool). As key bytes l l' p.e p.parsed t body) parts.1 (subst (λ (x : List ℕ). As key bytes l l' p.e p.parsed p.closes x) parts.2 (record { first = p.first; after = p.after }))))
   where
     entry : p.e ≡ e
     entry = same_entry (l.entries key) p.e e p.there there
 
-    parts : (p.said ≡ said) × (p.closes ≡ closes) × (p.body ≡ body)
-    parts = one_http p.said said p.closes closes p.body body (sym p.progress ∙ (ap (λ (x : Entry). x.progress) entry ∙ progress))
+    parts : (p.parsed ≡ parsed) × (p.closes ≡ closes) × (p.body ≡ body)
+    parts = one_http p.parsed parsed p.closes closes p.body body (sym p.progress ∙ (ap (λ (x : Entry). x.progress) entry ∙ progress))
 
 -- of two parts from one ledger, where the first is a prefix of the second: what is left of the second
 part_rest : (key : ℕ) (p r : List ℕ) (l m l' : Ledger) → IsPart key p l m → IsPart key (p ++ r) l l' → IsPart key r m l'
 part_rest key p r l m l' one other = record {
-  e = further one.said one.closes one.body p one.e;
-  said = one.said ++ map HasByte p;
+  e = further one.parsed one.closes one.body p one.e;
+  parsed = one.parsed ++ map HasByte p;
   closes = one.closes;
   body = one.body ++ p;
-  there = ap (λ (x : Ledger). x.entries key) one.after ∙ ap (λ (t : Bool). if t then Some (further one.said one.closes one.body p one.e) else l.entries key) (is_key key);
+  there = ap (λ (x : Ledger). x.entries key) one.after ∙ ap (λ (t : Bool). if t then Some (further one.parsed one.closes one.body p one.e) else l.entries key) (is_key key);
   sound = one.sound;
   flows = refl;
   progress = refl;
-  first = subst (ParsesFirst one.e.read) (ap (λ (x : List HttpElement). one.said ++ x) (map_append p r) ∙ sym (append_assoc one.said (map HasByte p) (map HasByte r))) its.first;
+  first = subst (ParsesFirst one.e.read) (ap (λ (x : List HttpElement). one.parsed ++ x) (map_append p r) ∙ sym (append_assoc one.parsed (map HasByte p) (map HasByte r))) its.first;
   after = its.after
-      ∙ (ap (λ (x : List HttpElement). with_entry key (record one.e { progress = Http x one.closes (one.body ++ (p ++ r)); draining = false }) l) (ap (λ (x : List HttpElement). one.said ++ x) (map_append p r) ∙ sym (append_assoc one.said (map HasByte p) (map HasByte r)))
-      ∙ (ap (λ (x : List ℕ). with_entry key (record one.e { progress = Http ((one.said ++ map HasByte p) ++ map HasByte r) one.closes x; draining = false }) l) (sym (append_assoc one.body p r))
-      ∙ (sym (with_twice key last (further one.said one.closes one.body p one.e) l) ∙ ap (λ (x : Ledger). with_entry key last x) (sym one.after))));
+      ∙ (ap (λ (x : List HttpElement). with_entry key (record one.e { progress = Http x one.closes (one.body ++ (p ++ r)); draining = false }) l) (ap (λ (x : List HttpElement). one.parsed ++ x) (map_append p r) ∙ sym (append_assoc one.parsed (map HasByte p) (map HasByte r)))
+      ∙ (ap (λ (x : List ℕ). with_entry key (record one.e { progress = Http ((one.parsed ++ map HasByte p) ++ map HasByte r) one.closes x; draining = false }) l) (sym (append_assoc one.body p r))
+      ∙ (sym (with_twice key last (further one.parsed one.closes one.body p one.e) l) ∙ ap (λ (x : Ledger). with_entry key last x) (sym one.after))));
 }
   where
-    its : As key (p ++ r) l l' one.e one.said one.closes one.body
-    its = seen_as key (p ++ r) l l' other one.e one.said one.closes one.body one.there one.progress
+    its : As key (p ++ r) l l' one.e one.parsed one.closes one.body
+    its = seen_as key (p ++ r) l l' other one.e one.parsed one.closes one.body one.there one.progress
 
     last : Entry
-    last = record one.e { progress = Http ((one.said ++ map HasByte p) ++ map HasByte r) one.closes ((one.body ++ p) ++ r); draining = false }
+    last = record one.e { progress = Http ((one.parsed ++ map HasByte p) ++ map HasByte r) one.closes ((one.body ++ p) ++ r); draining = false }
 
 -- ---- what a connection asks: a part of a body, or another item
 
@@ -149,40 +149,40 @@ IsOther h = (byte : ℕ) → h ≡ HasByte byte → ⊥
 
 module _ (some : SomeParse) (stays : FirstStays) (no_item : NoItemFollows) (one_lpd : OneLpdParse) (no_report : NoReportFollows) where
   -- two prefixes of a stream go on as one
-  prefixes : {A : Type 0} (read : List ℕ) (said one other : List HttpElement) → ParsesFirst read (said ++ one) → ParsesFirst read (said ++ other) → ((u v : List HttpElement) → one ++ u ≡ other ++ v → A) → A
-  prefixes read said one other p q goes =
+  prefixes : {A : Type 0} (read : List ℕ) (parsed one other : List HttpElement) → ParsesFirst read (parsed ++ one) → ParsesFirst read (parsed ++ other) → ((u v : List HttpElement) → one ++ u ≡ other ++ v → A) → A
+  prefixes read parsed one other p q goes =
       let whole = some read in
       let exchanges : Exchanges (read ++ []) whole.0 = subst (λ (x : List ℕ). Exchanges x whole.0) (sym (append-nil read)) whole.1 in
-      let left = stays read [] (said ++ one) whole.0 p exchanges in
-      let right = stays read [] (said ++ other) whole.0 q exchanges in
-      goes left.0 right.0 (append_cancel_left said (one ++ left.0) (other ++ right.0) (sym (append_assoc said one left.0) ∙ (sym left.1 ∙ (right.1 ∙ append_assoc said other right.0))))
+      let left = stays read [] (parsed ++ one) whole.0 p exchanges in
+      let right = stays read [] (parsed ++ other) whole.0 q exchanges in
+      goes left.0 right.0 (append_cancel_left parsed (one ++ left.0) (other ++ right.0) (sym (append_assoc parsed one left.0) ∙ (sym left.1 ∙ (right.1 ∙ append_assoc parsed other right.0))))
 
   -- nothing follows the whole of a stream
-  no_more : (read : List ℕ) (said : List HttpElement) (h : HttpElement) (more : List HttpElement) → Exchanges read said → ParsesFirst read (said ++ h ∷ more) → ⊥
-  no_more read said h more whole p =
-      let exchanges : Exchanges (read ++ []) said = subst (λ (x : List ℕ). Exchanges x said) (sym (append-nil read)) whole in
-      let left = stays read [] (said ++ h ∷ more) said p exchanges in
-      nothing (append_cancel_left said [] (h ∷ (more ++ left.0)) (append-nil said ∙ (left.1 ∙ append_assoc said (h ∷ more) left.0)))
+  no_more : (read : List ℕ) (parsed : List HttpElement) (h : HttpElement) (more : List HttpElement) → Exchanges read parsed → ParsesFirst read (parsed ++ h ∷ more) → ⊥
+  no_more read parsed h more whole p =
+      let exchanges : Exchanges (read ++ []) parsed = subst (λ (x : List ℕ). Exchanges x parsed) (sym (append-nil read)) whole in
+      let left = stays read [] (parsed ++ h ∷ more) parsed p exchanges in
+      nothing (append_cancel_left parsed [] (h ∷ (more ++ left.0)) (append-nil parsed ∙ (left.1 ∙ append_assoc parsed (h ∷ more) left.0)))
     where
       nothing : {x : HttpElement} {xs : List HttpElement} → [] ≡ x ∷ xs → ⊥
       nothing same = cc
 
   -- a part of a body is taken
   record Part (e new : Entry) (what : Ask) (progress : PeerRecord) : Type 0 where
-    said : List HttpElement
+    parsed : List HttpElement
     closes : Bool
     body : List ℕ
     bytes : List ℕ
-    is : progress ≡ Http said closes body
-    first : ParsesFirst e.read (said ++ map HasByte bytes)
+    is : progress ≡ Http parsed closes body
+    first : ParsesFirst e.read (parsed ++ map HasByte bytes)
     still : what ≡ ask.Nothing
-    after : new ≡ further said closes body bytes e
+    after : new ≡ further parsed closes body bytes e
 
   -- no part of a body is taken: there is another item, so that not all was acted on
   record Other (settings : ServerSettings) (progress : PeerRecord) (e : Entry) (comes : Step) (mid : Entry) (takes_item : ItemComes settings progress e comes mid) : Type 0 where
     none : part_acted_on settings progress e comes mid takes_item ≡ None
     not_acted_on : IsActedOnAs e.read progress → ⊥
-    element : (said : List HttpElement) (closes : Bool) (body : List ℕ) → progress ≡ Http said closes body → (h : HttpElement) × IsOther h × ParsesFirst e.read (said ++ h ∷ [])
+    element : (parsed : List HttpElement) (closes : Bool) (body : List ℕ) → progress ≡ Http parsed closes body → (h : HttpElement) × IsOther h × ParsesFirst e.read (parsed ++ h ∷ [])
 
   lost_some : {A : Type 0} (what it : Ask) (loss : Loss) → what ≡ it → lost_of it ≡ Some loss → lost_of what ≡ None → A
   lost_some what it loss same is none = absurd (never (lost_of it) is (sym (ap lost_of same) ∙ none))
@@ -190,62 +190,62 @@ module _ (some : SomeParse) (stays : FirstStays) (no_item : NoItemFollows) (one_
       never : (o : Option Loss) → o ≡ Some loss → o ≡ None → ⊥
       never o p q = cc
 
-  http_other : (settings : ServerSettings) (said : List HttpElement) (closes : Bool) (body : List ℕ) (e : Entry) (comes : Step) (mid : Entry) (it : IppItemComes e said closes body comes mid) (which : HttpItem) (h : HttpElement) → it.item ≡ which → part_taken which it.part ≡ None → elements_of which it.part ≡ h ∷ [] → IsOther h → Other settings (Http said closes body) e comes mid it
-  http_other settings said closes body e comes mid it which h is none elements other = record {
+  http_other : (settings : ServerSettings) (parsed : List HttpElement) (closes : Bool) (body : List ℕ) (e : Entry) (comes : Step) (mid : Entry) (it : IppItemComes e parsed closes body comes mid) (which : HttpItem) (h : HttpElement) → it.item ≡ which → part_taken which it.part ≡ None → elements_of which it.part ≡ h ∷ [] → IsOther h → Other settings (Http parsed closes body) e comes mid it
+  http_other settings parsed closes body e comes mid it which h is none elements other = record {
     none = ap (λ (x : HttpItem). part_taken x it.part) is ∙ none;
-    not_acted_on = λ acted_on. no_more e.read said h [] acted_on first;
-    element = λ of ends text same. (h, other, subst (λ (x : List HttpElement). ParsesFirst e.read (x ++ h ∷ [])) (one_http said of closes ends body text same).0 first);
+    not_acted_on = λ acted_on. no_more e.read parsed h [] acted_on first;
+    element = λ of ends text same. (h, other, subst (λ (x : List HttpElement). ParsesFirst e.read (x ++ h ∷ [])) (one_http parsed of closes ends body text same).0 first);
   }
     where
-      first : ParsesFirst e.read (said ++ h ∷ [])
-      first = subst (λ (x : List HttpElement). ParsesFirst e.read (said ++ x)) (ap (λ (x : HttpItem). elements_of x it.part) is ∙ elements) it.next
+      first : ParsesFirst e.read (parsed ++ h ∷ [])
+      first = subst (λ (x : List HttpElement). ParsesFirst e.read (parsed ++ x)) (ap (λ (x : HttpItem). elements_of x it.part) is ∙ elements) it.next
 
-  part_step : (said : List HttpElement) (closes : Bool) (body : List ℕ) (e : Entry) (comes : Step) (mid : Entry) (what : Ask) (new : Entry) (part : List ℕ) → ParsesFirst e.read (said ++ map HasByte part) → (comes ≡ silent) ⊎ (comes ≡ no_memory)
-      → mid ≡ with_progress (Http (said ++ map HasByte part) closes (grown comes part body)) e → StepsTo comes mid what new → lost_of what ≡ None → Part e new what (Http said closes body)
-  part_step said closes body e comes mid what new part first (inr is) after steps none =
+  part_step : (parsed : List HttpElement) (closes : Bool) (body : List ℕ) (e : Entry) (comes : Step) (mid : Entry) (what : Ask) (new : Entry) (part : List ℕ) → ParsesFirst e.read (parsed ++ map HasByte part) → (comes ≡ silent) ⊎ (comes ≡ no_memory)
+      → mid ≡ with_progress (Http (parsed ++ map HasByte part) closes (grown comes part body)) e → StepsTo comes mid what new → lost_of what ≡ None → Part e new what (Http parsed closes body)
+  part_step parsed closes body e comes mid what new part first (inr is) after steps none =
       let broke : (what ≡ ask.Broke growth.Input) × (new ≡ broken mid) = subst (λ (s : Step). StepsTo s mid what new) is steps in lost_some what (ask.Broke growth.Input) _ broke.0 refl none
-  part_step said closes body e comes mid what new part first (inl is) after steps none = by (subst (λ (s : Step). StepsTo s mid what new) is steps)
+  part_step parsed closes body e comes mid what new part first (inl is) after steps none = by (subst (λ (s : Step). StepsTo s mid what new) is steps)
     where
-      grew : mid ≡ with_progress (Http (said ++ map HasByte part) closes (body ++ part)) e
-      grew = after ∙ ap (λ (s : Step). with_progress (Http (said ++ map HasByte part) closes (grown s part body)) e) is
+      grew : mid ≡ with_progress (Http (parsed ++ map HasByte part) closes (body ++ part)) e
+      grew = after ∙ ap (λ (s : Step). with_progress (Http (parsed ++ map HasByte part) closes (grown s part body)) e) is
 
-      by : Owes [] (finishing false mid) what new → Part e new what (Http said closes body)
+      by : Owes [] (finishing false mid) what new → Part e new what (Http parsed closes body)
       by (inr (broke, needs, lost)) = lost_some what (ask.Broke growth.Output) _ broke refl none
       by (inl (quiet, owes)) = record {
-        said = said;
+        parsed = parsed;
         closes = closes;
         body = body;
         bytes = part;
         is = refl;
         first = first;
         still = quiet;
-        after = owes ∙ (ap (λ (x : Entry). owing [] (finishing false x)) grew ∙ ap (λ (due : List ℕ). record (further said closes body part e) { due = due }) (append-nil e.due));
+        after = owes ∙ (ap (λ (x : Entry). owing [] (finishing false x)) grew ∙ ap (λ (due : List ℕ). record (further parsed closes body part e) { due = due }) (append-nil e.due));
       }
 
-  http_kind : (settings : ServerSettings) (said : List HttpElement) (closes : Bool) (body : List ℕ) (e : Entry) (comes : Step) (mid : Entry) (what : Ask) (new : Entry) (it : IppItemComes e said closes body comes mid) (which : HttpItem) → it.item ≡ which → StepsTo comes mid what new → lost_of what ≡ None
-      → Part e new what (Http said closes body) ⊎ Other settings (Http said closes body) e comes mid it
-  http_kind settings said closes body e comes mid what new it (item.Head next) is steps none = inr (http_other settings said closes body e comes mid it (item.Head next) (HasHead next) is refl refl (λ byte same. cc))
-  http_kind settings said closes body e comes mid what new it item.Continue is steps none = inr (http_other settings said closes body e comes mid it item.Continue Invites is refl refl (λ byte same. cc))
-  http_kind settings said closes body e comes mid what new it item.BodyEnd is steps none = inr (http_other settings said closes body e comes mid it item.BodyEnd EndsBody is refl refl (λ byte same. cc))
-  http_kind settings said closes body e comes mid what new it (item.Refuse refusal) is steps none = inr (http_other settings said closes body e comes mid it (item.Refuse refusal) (IsRefused refusal) is refl refl (λ byte same. cc))
-  http_kind settings said closes body e comes mid what new it item.BodyPart is steps none =
+  http_kind : (settings : ServerSettings) (parsed : List HttpElement) (closes : Bool) (body : List ℕ) (e : Entry) (comes : Step) (mid : Entry) (what : Ask) (new : Entry) (it : IppItemComes e parsed closes body comes mid) (which : HttpItem) → it.item ≡ which → StepsTo comes mid what new → lost_of what ≡ None
+      → Part e new what (Http parsed closes body) ⊎ Other settings (Http parsed closes body) e comes mid it
+  http_kind settings parsed closes body e comes mid what new it (item.Head next) is steps none = inr (http_other settings parsed closes body e comes mid it (item.Head next) (HasHead next) is refl refl (λ byte same. cc))
+  http_kind settings parsed closes body e comes mid what new it item.Continue is steps none = inr (http_other settings parsed closes body e comes mid it item.Continue Invites is refl refl (λ byte same. cc))
+  http_kind settings parsed closes body e comes mid what new it item.BodyEnd is steps none = inr (http_other settings parsed closes body e comes mid it item.BodyEnd EndsBody is refl refl (λ byte same. cc))
+  http_kind settings parsed closes body e comes mid what new it (item.Refuse refusal) is steps none = inr (http_other settings parsed closes body e comes mid it (item.Refuse refusal) (IsRefused refusal) is refl refl (λ byte same. cc))
+  http_kind settings parsed closes body e comes mid what new it item.BodyPart is steps none =
       inl
-      (part_step said closes body e comes mid what new it.part (subst (λ (x : HttpItem). ParsesFirst e.read (said ++ elements_of x it.part)) is it.next) (subst (λ (x : HttpItem). StepsIpp x closes body comes) is it.comes)
-      (it.after ∙ ap (λ (x : HttpItem). with_progress (Http (said ++ elements_of x it.part) (closes_after x closes) (body_after x comes it.part body)) e) is) steps none)
+      (part_step parsed closes body e comes mid what new it.part (subst (λ (x : HttpItem). ParsesFirst e.read (parsed ++ elements_of x it.part)) is it.next) (subst (λ (x : HttpItem). StepsIpp x closes body comes) is it.comes)
+      (it.after ∙ ap (λ (x : HttpItem). with_progress (Http (parsed ++ elements_of x it.part) (closes_after x closes) (body_after x comes it.part body)) e) is) steps none)
 
   breaks : {A : Type 0} (comes : Step) (mid : Entry) (what : Ask) (new : Entry) → comes ≡ no_memory → StepsTo comes mid what new → lost_of what ≡ None → A
   breaks comes mid what new is steps none = let broke : (what ≡ ask.Broke growth.Input) × (new ≡ broken mid) = subst (λ (s : Step). StepsTo s mid what new) is steps in lost_some what (ask.Broke growth.Input) _ broke.0 refl none
 
   kind : (settings : ServerSettings) (progress : PeerRecord) (e : Entry) (comes : Step) (mid : Entry) (what : Ask) (new : Entry) → (takes_item : ItemComes settings progress e comes mid) → StepsTo comes mid what new → lost_of what ≡ None → Part e new what progress ⊎ Other settings progress e comes mid takes_item
-  kind settings (Http said closes body) e comes mid what new takes_item steps none = http_kind settings said closes body e comes mid what new takes_item takes_item.item refl steps none
-  kind settings (Queue items session) e comes mid what new (inl it) steps none = inr (record { none = refl; not_acted_on = λ acted_on. no_item e.read items it.said Open it.next acted_on; element = λ said closes body same. cc })
-  kind settings (Queue items session) e comes mid what new (inr (inl it)) steps none = inr (record { none = refl; not_acted_on = λ acted_on. open_fault (one_lpd e.read items items Open (Faulty it.fault) acted_on it.is).1; element = λ said closes body same. cc })
+  kind settings (Http parsed closes body) e comes mid what new takes_item steps none = http_kind settings parsed closes body e comes mid what new takes_item takes_item.item refl steps none
+  kind settings (Queue items session) e comes mid what new (inl it) steps none = inr (record { none = refl; not_acted_on = λ acted_on. no_item e.read items it.parsed Open it.next acted_on; element = λ parsed closes body same. cc })
+  kind settings (Queue items session) e comes mid what new (inr (inl it)) steps none = inr (record { none = refl; not_acted_on = λ acted_on. open_fault (one_lpd e.read items items Open (Faulty it.fault) acted_on it.is).1; element = λ parsed closes body same. cc })
     where
       open_fault : Open ≡ Faulty it.fault → ⊥
       open_fault same = cc
   kind settings (Queue items session) e comes mid what new (inr (inr it)) steps none = breaks comes mid what new it.0 steps none
-  kind settings (OfDevice reports device) e comes mid what new (inl it) steps none = inr (record { none = refl; not_acted_on = λ acted_on. no_report e.read reports it.said Link.Unfinished it.next acted_on; element = λ said closes body same. cc })
-  kind settings (OfDevice reports device) e comes mid what new (inr (inl it)) steps none = inr (record { none = refl; not_acted_on = λ acted_on. open_fault (ap (λ (x : ParsedLines). x.ending) (sym acted_on ∙ it.is)); element = λ said closes body same. cc })
+  kind settings (OfDevice reports device) e comes mid what new (inl it) steps none = inr (record { none = refl; not_acted_on = λ acted_on. no_report e.read reports it.parsed Link.Unfinished it.next acted_on; element = λ parsed closes body same. cc })
+  kind settings (OfDevice reports device) e comes mid what new (inr (inl it)) steps none = inr (record { none = refl; not_acted_on = λ acted_on. open_fault (ap (λ (x : ParsedLines). x.ending) (sym acted_on ∙ it.is)); element = λ parsed closes body same. cc })
     where
       open_fault : Link.Unfinished ≡ Link.Faulty it.fault → ⊥
       open_fault same = cc
@@ -275,7 +275,7 @@ module _ (some : SomeParse) (stays : FirstStays) (no_item : NoItemFollows) (one_
     none : part_of it.2.first.asks ≡ None
     lost : lost_of it.1 ≡ None
     not_acted_on : IsActedOnAt (l.entries key) → ⊥
-    element : (e : Entry) (said : List HttpElement) (closes : Bool) (body : List ℕ) → l.entries key ≡ Some e → e.progress ≡ Http said closes body → (h : HttpElement) × IsOther h × ParsesFirst e.read (said ++ h ∷ [])
+    element : (e : Entry) (parsed : List HttpElement) (closes : Bool) (body : List ℕ) → l.entries key ≡ Some e → e.progress ≡ Http parsed closes body → (h : HttpElement) × IsOther h × ParsesFirst e.read (parsed ++ h ∷ [])
 
   flowing : (x y : Bool) → (x || y) ≡ false → (x ≡ false) × (y ≡ false)
   flowing true y is = absurd (untrue true is refl)
@@ -300,7 +300,7 @@ module _ (some : SomeParse) (stays : FirstStays) (no_item : NoItemFollows) (one_
             bytes = took.bytes;
             part = record {
               e = p.entry;
-              said = took.said;
+              parsed = took.parsed;
               closes = took.closes;
               body = took.body;
               there = p.there;
@@ -316,10 +316,10 @@ module _ (some : SomeParse) (stays : FirstStays) (no_item : NoItemFollows) (one_
         none = other.none;
         lost = none;
         not_acted_on = λ acted_on. not_acted_on (subst IsActedOnAt p.there acted_on);
-        element = λ e said closes body there progress.
+        element = λ e parsed closes body there progress.
             let same : p.entry ≡ e = same_entry (l.entries key) p.entry e p.there there in
-            let is : p.entry.progress ≡ Http said closes body = ap (λ (x : Entry). x.progress) same ∙ progress in
-            subst (λ (x : Entry). (h : HttpElement) × IsOther h × ParsesFirst x.read (said ++ h ∷ [])) same (other.element said closes body is);
+            let is : p.entry.progress ≡ Http parsed closes body = ap (λ (x : Entry). x.progress) same ∙ progress in
+            subst (λ (x : Entry). (h : HttpElement) × IsOther h × ParsesFirst x.read (parsed ++ h ∷ [])) same (other.element parsed closes body is);
       })
         where
           not_acted_on : IsActedOn p.entry → ⊥
@@ -328,19 +328,19 @@ module _ (some : SomeParse) (stays : FirstStays) (no_item : NoItemFollows) (one_
 
   module _ (steps : StepsOnce) (queries : SameQueries) (asks : AsksOne) (moment key : ℕ) where
     -- two asks of one connection's number are one
-    record OneAsk (id : ℕ) (what : Ask) (other : ℕ) (said : Ask) : Type 0 where
+    record OneAsk (id : ℕ) (what : Ask) (other : ℕ) (parsed : Ask) : Type 0 where
       ids : id ≡ other
-      same_ask : SameAsk what said
+      same_ask : SameAsk what parsed
 
-    asked_one : (settings : ServerSettings) (o : Option Entry) (e d : Entry) (what said : Ask) (new after : Entry) → o ≡ Some e → o ≡ Some d → (one : AsksNext settings what e new) (other : AsksNext settings said d after)
-        → part_of one ≡ part_of other → lost_of what ≡ lost_of said → SameAsk what said × (new ≡ after)
-    asked_one settings o e d what said new after there is one other part lost =
-        (subst (λ (x : Entry). (it : AsksNext settings said x after) → part_of one ≡ part_of it → lost_of what ≡ lost_of said → SameAsk what said × (new ≡ after)) (same_entry o e d there is) (asks settings e what said new after one))
+    asked_one : (settings : ServerSettings) (o : Option Entry) (e d : Entry) (what parsed : Ask) (new after : Entry) → o ≡ Some e → o ≡ Some d → (one : AsksNext settings what e new) (other : AsksNext settings parsed d after)
+        → part_of one ≡ part_of other → lost_of what ≡ lost_of parsed → SameAsk what parsed × (new ≡ after)
+    asked_one settings o e d what parsed new after there is one other part lost =
+        (subst (λ (x : Entry). (it : AsksNext settings parsed x after) → part_of one ≡ part_of it → lost_of what ≡ lost_of parsed → SameAsk what parsed × (new ≡ after)) (same_entry o e d there is) (asks settings e what parsed new after one))
         other part lost
 
-    asks_same : (id other : ℕ) (what said : Ask) (l : Ledger) (hs : List Happening) (a : Ledger) (ks : List Happening) (b : Ledger) → (p : Asks key id what l hs a) (q : Asks key other said l ks b) → part_of p.asks ≡ None → part_of q.asks ≡ None → lost_of what ≡ None → lost_of said ≡ None → OneAsk id what other said × (keyed hs ≡ keyed ks) × (a ≡ b)
-    asks_same id other what said l hs a ks b p q none nor lost found =
-        let one = asked_one l.core.settings (l.entries key) p.entry q.entry what said p.new q.new p.there q.there p.asks q.asks (none ∙ sym nor) (lost ∙ sym found) in
+    asks_same : (id other : ℕ) (what parsed : Ask) (l : Ledger) (hs : List Happening) (a : Ledger) (ks : List Happening) (b : Ledger) → (p : Asks key id what l hs a) (q : Asks key other parsed l ks b) → part_of p.asks ≡ None → part_of q.asks ≡ None → lost_of what ≡ None → lost_of parsed ≡ None → OneAsk id what other parsed × (keyed hs ≡ keyed ks) × (a ≡ b)
+    asks_same id other what parsed l hs a ks b p q none nor lost found =
+        let one = asked_one l.core.settings (l.entries key) p.entry q.entry what parsed p.new q.new p.there q.there p.asks q.asks (none ∙ sym nor) (lost ∙ sym found) in
         let entry : p.entry ≡ q.entry = same_entry (l.entries key) p.entry q.entry p.there q.there in (
           record { ids = p.its ∙ (ap (λ (x : Entry). x.id) entry ∙ sym q.its); same_ask = one.0 },
           ap keyed p.chosen ∙ sym (ap keyed q.chosen),
@@ -348,10 +348,10 @@ module _ (some : SomeParse) (stays : FirstStays) (no_item : NoItemFollows) (one_
         )
 
     next_same : (l : Ledger) (hs rest : List Happening) (a : Ledger) (ks more : List Happening) (b : Ledger) → keyed hs ++ rest ≡ keyed ks ++ more → Calm hs → Calm ks → (p : ActsNext moment key l hs a) (q : ActsNext moment key l ks b) → AsksElse moment key l hs a p → AsksElse moment key l ks b q → (keyed hs ≡ keyed ks) × (a ≡ b)
-    next_same l hs rest a ks more b e c d (id, what, p) (other, said, q) x y =
-        let it = same_then_by (Asks key id what) (Asks key other said) (ActsOn moment key id what) (ActsOn moment key other said) l hs rest a ks more b e c d p q
-        (λ left right both calm still. asks_same id other what said l p.prefix p.mid q.prefix q.mid p.first q.first x.none y.none x.lost y.lost)
-        (λ one. subst (λ (k : ℕ). Same (ActsOn moment key id what) (ActsOn moment key k said)) one.ids (same_does steps queries moment key id what said one.same_ask)) in
+    next_same l hs rest a ks more b e c d (id, what, p) (other, parsed, q) x y =
+        let it = same_then_by (Asks key id what) (Asks key other parsed) (ActsOn moment key id what) (ActsOn moment key other parsed) l hs rest a ks more b e c d p q
+        (λ left right both calm still. asks_same id other what parsed l p.prefix p.mid q.prefix q.mid p.first q.first x.none y.none x.lost y.lost)
+        (λ one. subst (λ (k : ℕ). Same (ActsOn moment key id what) (ActsOn moment key k parsed)) one.ids (same_does steps queries moment key id what parsed one.same_ask)) in
         (it.1, it.2)
 
     acts_same : (l : Ledger) (hs rest : List Happening) (a : Ledger) (ks more : List Happening) (b : Ledger) → keyed hs ++ rest ≡ keyed ks ++ more → Calm hs → Calm ks → (p : Acts moment key l hs a) (q : Acts moment key l ks b) → AsksElse moment key l p.prefix p.mid p.first → AsksElse moment key l q.prefix q.mid q.first → (keyed hs ≡ keyed ks) × (a ≡ b)
@@ -404,7 +404,7 @@ module _ (some : SomeParse) (stays : FirstStays) (no_item : NoItemFollows) (one_
 
         by : IsActedOn p.e → ⊥
         by (inl over) = never p.e.draining p.e.broken p.flows p.sound over
-        by (inr all) = no_more p.e.read p.said (HasByte x) (map HasByte xs) (subst (IsActedOnAs p.e.read) p.progress all) p.first
+        by (inr all) = no_more p.e.read p.parsed (HasByte x) (map HasByte xs) (subst (IsActedOnAs p.e.read) p.progress all) p.first
 
     unseen_prefix : (hs prefix back : List Happening) → hs ≡ prefix ++ back → keyed prefix ≡ [] → keyed hs ≡ keyed back
     unseen_prefix hs prefix back whole unseen = ap keyed whole ∙ (keyed_append prefix back ∙ ap (λ (x : List Happening). x ++ keyed back) unseen)
@@ -522,11 +522,11 @@ module _ (some : SomeParse) (stays : FirstStays) (no_item : NoItemFollows) (one_
 
         by : TakesPart key l x.prefix x.mid ⊎ AsksElse moment key l x.first.prefix x.first.mid x.first.first → Met hs a ks b
         by (inr other) =
-            let it = other.element part.e part.said part.closes part.body part.there part.progress in prefixes part.e.read part.said (it.0 ∷ []) (HasByte z ∷ map HasByte zs) it.2 part.first (λ u v same. clash it.0 z u (map HasByte zs ++ v) it.1 same)
+            let it = other.element part.e part.parsed part.closes part.body part.there part.progress in prefixes part.e.read part.parsed (it.0 ∷ []) (HasByte z ∷ map HasByte zs) it.2 part.first (λ u v same. clash it.0 z u (map HasByte zs ++ v) it.1 same)
         by (inl took) =
             let one = took.part in
-            let its = seen_as key (z ∷ zs) l l2 part one.e one.said one.closes one.body one.there one.progress in
-            taken took.bytes one (unseen_prefix hs x.prefix x.back x.whole took.unseen) (prefixes one.e.read one.said (map HasByte took.bytes) (map HasByte (z ∷ zs)) one.first its.first (λ u v same. prefix took.bytes (z ∷ zs) u v same))
+            let its = seen_as key (z ∷ zs) l l2 part one.e one.parsed one.closes one.body one.there one.progress in
+            taken took.bytes one (unseen_prefix hs x.prefix x.back x.whole took.unseen) (prefixes one.e.read one.parsed (map HasByte took.bytes) (map HasByte (z ∷ zs)) one.first its.first (λ u v same. prefix took.bytes (z ∷ zs) u v same))
 
     meet : (k : ℕ) → Meets k
     meet k zero m le l l2 none (inl same) hs rest a ks more b e c d p q =

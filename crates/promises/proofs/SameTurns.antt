@@ -183,7 +183,7 @@ refusal_seen (Chosen choice ∷ hs) = chosen_calm choice (keyed hs) ∙ refusal_
 happened_seen : (action : Action) → happenings_of (keyed_of action) ≡ keyed (happenings_of action)
 happened_seen (Turned moment hs) = refl
 happened_seen (Served_body moment body answer hs) = refl
-happened_seen (Reported moment device said hs) = refl
+happened_seen (Reported moment device parsed hs) = refl
 happened_seen (Ticked moment hs) = refl
 
 trace_seen : (trace : Trace) → happenings_in (keyed_in trace) ≡ keyed (happenings_in trace)
@@ -461,11 +461,11 @@ module _ (steps : StepsOnce) (queries : SameQueries) (asks : AsksOne) (bodies : 
   body_asks : (moment : ℕ) (it : ParsedRequest) (served other : Between.Outcome) → Same (BodyAsks moment it served) (BodyAsks moment it other)
   body_asks moment asked.TooShort served other = record { one = λ l hs rest a ks more b e c d p q. same_nothing.one l hs rest a ks more b e c d p.1 q.1 }
   body_asks moment (asked.Refused status request) served other = record { one = λ l hs rest a ks more b e c d p q. refused_between.one l hs rest a ks more b e c d p.1 q.1 }
-  body_asks moment (asked.Event request event) served other = record { one = λ l hs rest a ks more b e c d (bytes, is, p) (said, its, q). (same_body steps moment request event bytes said (same_self event)).one l hs rest a ks more b e c d p q }
+  body_asks moment (asked.Event request event) served other = record { one = λ l hs rest a ks more b e c d (bytes, is, p) (parsed, its, q). (same_body steps moment request event bytes parsed (same_self event)).one l hs rest a ks more b e c d p q }
 
   body_comes : (moment : ℕ) (body : List ℕ) (served other : Between.Outcome) (l : Ledger) (hs rest : List Happening) (a : Ledger) (ks more : List Happening) (b : Ledger) → keyed hs ++ rest ≡ keyed ks ++ more → Calm hs → Calm ks → BodyComes moment body served l hs a → BodyComes moment body other l ks b → (keyed hs ≡ keyed ks) × (a ≡ b)
-  body_comes moment body served other l hs rest a ks more b e c d (inl (one, is, p)) (inl (said, its, q)) =
-      let same : said ≡ one = bodies body said one its is in
+  body_comes moment body served other l hs rest a ks more b e c d (inl (one, is, p)) (inl (parsed, its, q)) =
+      let same : parsed ≡ one = bodies body parsed one its is in
       (same_then (same_chooses Found) (body_asks moment one served other)).one l hs rest a ks more b e c d p (subst (λ (x : ParsedRequest). Then (Chooses Found) (BodyAsks moment x other) l ks b) same q)
   body_comes moment body served other l hs rest a ks more b e c d (inr p) q = absurd ((refuses_notifies At.Event None).never l hs a p c)
   body_comes moment body served other l hs rest a ks more b e c d (inl p) (inr q) = absurd ((refuses_notifies At.Event None).never l ks b q d)
@@ -479,16 +479,16 @@ module _ (steps : StepsOnce) (queries : SameQueries) (asks : AsksOne) (bodies : 
   action_same : (one other : Action) (l a b : Ledger) → keyed_of one ≡ keyed_of other → Calm (happenings_of one) → Calm (happenings_of other) → DoesAction one l a → DoesAction other l b → a ≡ b
   action_same (Turned moment hs) (Turned at ks) l a b same c d p q =
       let it : (moment ≡ at) × (keyed hs ≡ keyed ks) = (cc, cc) in all_one (Turn moment) (turn_same moment) l hs ks a b it.1 c d p (subst (λ (m : ℕ). Turn m l ks b) (sym it.0) q)
-  action_same (Served_body moment body answer hs) (Served_body at text said ks) l a b same c d (served, is, p) (other, its, q) =
+  action_same (Served_body moment body answer hs) (Served_body at text parsed ks) l a b same c d (served, is, p) (other, its, q) =
       let it : (moment ≡ at) × (body ≡ text) × (keyed hs ≡ keyed ks) = (cc, cc, cc) in
       let comes : BodyComes moment body other l ks b = subst (λ (m : ℕ). BodyComes m body other l ks b) (sym it.0) (subst (λ (x : List ℕ). BodyComes at x other l ks b) (sym it.1) q) in
       let end = body_comes moment body served other l hs [] a ks [] b (ap (λ (xs : List Happening). xs ++ []) it.2) c d p comes in
       end.1
-  action_same (Reported moment device said hs) (Reported at other notified ks) l a b same c d p q =
-      let it : (moment ≡ at) × (device ≡ other) × (said ≡ notified) × (keyed hs ≡ keyed ks) = (cc, cc, cc, cc) in
-      let reports : Between.Reports moment device said l ks b =
-      subst (λ (m : ℕ). Between.Reports m device said l ks b) (sym it.0) (subst (λ (x : ℕ). Between.Reports at x said l ks b) (sym it.1) (subst (λ (x : ReportRecord). Between.Reports at other x l ks b) (sym it.2) q)) in
-      all_one (Between.Reports moment device said) (same_reports steps queries moment device said) l hs ks a b it.3 c d p reports
+  action_same (Reported moment device parsed hs) (Reported at other notified ks) l a b same c d p q =
+      let it : (moment ≡ at) × (device ≡ other) × (parsed ≡ notified) × (keyed hs ≡ keyed ks) = (cc, cc, cc, cc) in
+      let reports : Between.Reports moment device parsed l ks b =
+      subst (λ (m : ℕ). Between.Reports m device parsed l ks b) (sym it.0) (subst (λ (x : ℕ). Between.Reports at x parsed l ks b) (sym it.1) (subst (λ (x : ReportRecord). Between.Reports at other x l ks b) (sym it.2) q)) in
+      all_one (Between.Reports moment device parsed) (same_reports steps queries moment device parsed) l hs ks a b it.3 c d p reports
   action_same (Ticked moment hs) (Ticked at ks) l a b same c d p q =
       let it : (moment ≡ at) × (keyed hs ≡ keyed ks) = (cc, cc) in all_one (Ticks moment) (same_ticks moment) l hs ks a b it.1 c d p (subst (λ (m : ℕ). Ticks m l ks b) (sym it.0) q)
   action_same one other l a b same c d p q = cc

@@ -24,7 +24,7 @@ use Rattle.promises.specs.Orders.{began, began_by, canceled, cancel_for, start_f
 
 -- ---- connections
 
--- a device said its name on this connection, and it isn't broken
+-- a device gave its name on this connection, and it isn't broken
 abbrev pub Counts : ℕ → Option Entry → Type 0
 Counts device None = ⊥
 Counts device (Some e) = (device_of e.progress ≡ Some device) × (e.broken ≡ false)
@@ -41,11 +41,11 @@ due_at (Some e) = e.due
 -- the name is among the reports
 abbrev pub HasReport : List ReportRecord → Type 0
 HasReport [] = ⊥
-HasReport (said ∷ reports) = Unit {0}
+HasReport (parsed ∷ reports) = Unit {0}
 
 -- before a device gives its name nothing is due, and the name is a report
 abbrev pub FreshTalk : PeerRecord → Entry → Type 0
-FreshTalk (Http said closes body) e = Unit {0}
+FreshTalk (Http parsed closes body) e = Unit {0}
 FreshTalk (Queue items session) e = Unit {0}
 FreshTalk (Link reports None) e = e.broken ≡ false → e.due ≡ []
 FreshTalk (Link reports (Some device)) e = e.broken ≡ false → HasReport reports
@@ -168,17 +168,17 @@ no_true true p q = cc
 no_true false p q = cc
 
 pub client_none : (progress : PeerRecord) (device : ℕ) → ClientTalk progress → device_of progress ≡ Some device → ⊥
-client_none (Http said closes body) device client is = cc
+client_none (Http parsed closes body) device client is = cc
 client_none (Queue items session) device client is = cc
 client_none (Link reports other) device client is = client
 
 pub client_fresh : (progress : PeerRecord) (e : Entry) → ClientTalk progress → FreshTalk progress e
-client_fresh (Http said closes body) e client = tt
+client_fresh (Http parsed closes body) e client = tt
 client_fresh (Queue items session) e client = tt
 client_fresh (Link reports device) e client = absurd client
 
 broken_fresh : (progress : PeerRecord) (e : Entry) → e.broken ≡ true → FreshTalk progress e
-broken_fresh (Http said closes body) e is = tt
+broken_fresh (Http parsed closes body) e is = tt
 broken_fresh (Queue items session) e is = tt
 broken_fresh (Link reports None) e is = λ not_broken. absurd (no_true e.broken is not_broken)
 broken_fresh (Link reports (Some device)) e is = λ not_broken. absurd (no_true e.broken is not_broken)
@@ -202,7 +202,7 @@ ordered_broken sent d e is of_device of_client same_client = record {
     by device (named, due) false was = inr ((named, was), sent device, ap (λ (bytes : List ℕ). bytes ++ sent device) due)
 
 still_fresh : (progress : PeerRecord) (d e : Entry) → e.broken ≡ d.broken → e.due ≡ d.due → FreshTalk progress d → FreshTalk progress e
-still_fresh (Http said closes body) d e same due fresh = tt
+still_fresh (Http parsed closes body) d e same due fresh = tt
 still_fresh (Queue items session) d e same due fresh = tt
 still_fresh (Link reports None) d e same due fresh = λ is. due ∙ fresh (sym same ∙ is)
 still_fresh (Link reports (Some device)) d e same due fresh = λ is. fresh (sym same ∙ is)
@@ -219,17 +219,17 @@ ordered_keeps d e progress same due reads = record {
 }
 
 unnamed_none : (progress : PeerRecord) (device : ℕ) → device_of (unnamed progress) ≡ Some device → device_of progress ≡ Some device
-unnamed_none (Http said closes body) device is = is
+unnamed_none (Http parsed closes body) device is = is
 unnamed_none (Queue items session) device is = is
 unnamed_none (Link reports other) device is = cc
 
 unnamed_client : (progress : PeerRecord) → ClientTalk progress → ClientTalk (unnamed progress)
-unnamed_client (Http said closes body) client = tt
+unnamed_client (Http parsed closes body) client = tt
 unnamed_client (Queue items session) client = tt
 unnamed_client (Link reports device) client = absurd client
 
 unnamed_progress : (progress : PeerRecord) → ClientTalk (unnamed progress) → progress ≡ unnamed progress
-unnamed_progress (Http said closes body) client = refl
+unnamed_progress (Http parsed closes body) client = refl
 unnamed_progress (Queue items session) client = refl
 unnamed_progress (Link reports device) client = absurd client
 
@@ -351,7 +351,7 @@ owing_to device bytes e is unbroken = record {
 }
   where
     named_fresh : (progress : PeerRecord) → device_of progress ≡ Some device → FreshTalk progress e → FreshTalk progress (owing bytes e)
-    named_fresh (Http said closes body) named fresh = tt
+    named_fresh (Http parsed closes body) named fresh = tt
     named_fresh (Queue items session) named fresh = tt
     named_fresh (Link reports None) named fresh = cc
     named_fresh (Link reports (Some other)) named fresh = fresh

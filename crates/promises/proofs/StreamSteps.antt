@@ -6,7 +6,7 @@ use Rattle.base_types.specs.Report.{report_of, ReportRecord, HelloReport, MediaR
 use Rattle.std.specs.Prelude.{take}
 use Rattle.std.specs.Str.Lines.{strip_carriage_return}
 use Rattle.text.specs.Parts.{words_of}
-use Rattle.device_link.specs.Line.{said as line_report, in_turn}
+use Rattle.device_link.specs.Line.{parsed as line_report, in_turn}
 use Rattle.device_link.specs.Stream.{Leads, ParsesFirst}
 use Rattle.settings_file.specs.Settings.{ServerSettings, device_named}
 use Rattle.http_front.specs.declared.item.HttpItem.{HttpItem}
@@ -59,7 +59,7 @@ IsClientAsk (ask.Report device report) = ⊥
 IsClientAsk (ask.UnknownDevice name) = ⊥
 IsClientAsk (ask.Fault device) = ⊥
 
--- of a device's that has said its name, or doesn't say it now
+-- of a device's that has given its name, or doesn't give it now
 abbrev pub IsDeviceAsk : Ask → Type 0
 IsDeviceAsk ask.Nothing = ⊥
 IsDeviceAsk (ask.Broke growth) = Unit {0}
@@ -177,7 +177,7 @@ asks_client (Stops answer) (step.Breaks what) after is = absurd is
 asks_client (Submits job next) (step.Breaks what) after is = absurd is
 asks_client (Commands command) (step.Breaks what) after is = absurd is
 
-pub lpd_client : (queues : List ℕ → Bool) (before : Option SessionState) (said : ItemRecord) (comes : Step) (after : Option SessionState) → StepsLpd queues before said comes after → IsClientStep comes
+pub lpd_client : (queues : List ℕ → Bool) (before : Option SessionState) (parsed : ItemRecord) (comes : Step) (after : Option SessionState) → StepsLpd queues before parsed comes after → IsClientStep comes
 lpd_client queues before (HasFile contents) comes after (inl is) = subst IsClientStep (sym is.0) tt
 lpd_client queues before (HasFile contents) comes after (inr is) = asks_client (result_of queues before (HasFile contents)) comes after is
 lpd_client queues before (CommandItem command) comes after is = asks_client (result_of queues before (CommandItem command)) comes after is
@@ -185,8 +185,8 @@ lpd_client queues before Aborts comes after is = asks_client (result_of queues b
 lpd_client queues before (Announces head) comes after is = asks_client (result_of queues before (Announces head)) comes after is
 
 pub client_keeps : (settings : ServerSettings) (progress : PeerRecord) (e : Entry) (comes : Step) (mid : Entry) → ClientTalk progress → ClientTalk e.progress → ItemComes settings progress e comes mid → IsClientStep comes × ClientTalk mid.progress
-client_keeps settings (Http said closes body) e comes mid client here next = (ipp_client next.item closes body comes next.comes, subst (λ (x : Entry). ClientTalk x.progress) (sym next.after) tt)
-client_keeps settings (Queue items session) e comes mid client here (inl next) = (lpd_client _ session next.said comes next.session_after next.comes, subst (λ (x : Entry). ClientTalk x.progress) (sym next.after) tt)
+client_keeps settings (Http parsed closes body) e comes mid client here next = (ipp_client next.item closes body comes next.comes, subst (λ (x : Entry). ClientTalk x.progress) (sym next.after) tt)
+client_keeps settings (Queue items session) e comes mid client here (inl next) = (lpd_client _ session next.parsed comes next.session_after next.comes, subst (λ (x : Entry). ClientTalk x.progress) (sym next.after) tt)
 client_keeps settings (Queue items session) e comes mid client here (inr (inl next)) = (subst IsClientStep (sym next.comes) tt, subst (λ (x : Entry). ClientTalk x.progress) (sym next.after) here)
 client_keeps settings (Queue items session) e comes mid client here (inr (inr next)) = (subst IsClientStep (sym next.0) refl, subst (λ (x : Entry). ClientTalk x.progress) (sym next.1) here)
 client_keeps settings (Link reports device) e comes mid client here next = absurd client
@@ -224,9 +224,9 @@ link_breaks what it e mid new asks fine after due of_device of_client never =
 pub not_client : (progress : PeerRecord) (reports : List ReportRecord) (device : Option ℕ) → progress ≡ Link reports device → ClientTalk progress → ⊥
 not_client progress reports device is client = subst ClientTalk is client
 
-pub has_more : (reports : List ReportRecord) (said : ReportRecord) → HasReport (reports ++ said ∷ [])
-has_more [] said = tt
-has_more (one ∷ reports) said = tt
+pub has_more : (reports : List ReportRecord) (parsed : ReportRecord) → HasReport (reports ++ parsed ∷ [])
+has_more [] parsed = tt
+has_more (one ∷ reports) parsed = tt
 
 pub named_keeps : (settings : ServerSettings) (reports : List ReportRecord) (name : List ℕ) (place : Option ℕ) (device_after : Option ℕ) (e : Entry) (comes : Step) (mid : Entry) (what : Ask) (new : Entry) → e.progress ≡ Link reports None
     → StepsHello name place comes device_after → mid ≡ with_progress (Link (reports ++ HelloReport name ∷ []) device_after) e → StepsTo comes mid what new → DeviceAsks what e new
@@ -251,7 +251,7 @@ named_keeps settings reports name (Some device) device_after e comes mid what ne
     })
 
 -- once a device has given its name, its bytes say no name
-no_name : (said : Option ReportRecord) (name : List ℕ) → in_turn true said ≡ Some (HelloReport name) → ⊥
+no_name : (parsed : Option ReportRecord) (name : List ℕ) → in_turn true parsed ≡ Some (HelloReport name) → ⊥
 no_name None name is = cc
 no_name (Some (HelloReport other)) name is = cc
 no_name (Some (MediaReport names)) name is = cc
@@ -271,12 +271,12 @@ named_once : (bytes : List ℕ) (reports : List ReportRecord) (name : List ℕ) 
 named_once bytes [] name has first = absurd has
 named_once bytes (one ∷ reports) name has first = named_already first.leads.0 reports name first.next first.left first.leads.2
 
-later_nameless : (bytes : List ℕ) (reports : List ReportRecord) (device : ℕ) (said : ReportRecord) (it : Report) → report_of it ≡ said → HasReport reports → ParsesFirst bytes (reports ++ said ∷ []) → None ≡ named_by true (Is.Report device it)
-later_nameless bytes reports device said (reported.Hello name) same has first = absurd (named_once bytes reports name has (subst (λ (r : ReportRecord). ParsesFirst bytes (reports ++ r ∷ [])) (sym same) first))
-later_nameless bytes reports device said it same has first = refl
+later_nameless : (bytes : List ℕ) (reports : List ReportRecord) (device : ℕ) (parsed : ReportRecord) (it : Report) → report_of it ≡ parsed → HasReport reports → ParsesFirst bytes (reports ++ parsed ∷ []) → None ≡ named_by true (Is.Report device it)
+later_nameless bytes reports device parsed (reported.Hello name) same has first = absurd (named_once bytes reports name has (subst (λ (r : ReportRecord). ParsesFirst bytes (reports ++ r ∷ [])) (sym same) first))
+later_nameless bytes reports device parsed it same has first = refl
 
-pub report_keeps : (settings : ServerSettings) (reports : List ReportRecord) (device : Option ℕ) (said : ReportRecord) (device_after : Option ℕ) (e : Entry) (comes : Step) (mid : Entry) (what : Ask) (new : Entry) → e.progress ≡ Link reports device → FreshTalk (Link reports device) e → e.broken ≡ false → ParsesFirst e.read (reports ++ said ∷ [])
-    → StepsDevice (device_named settings) device said comes device_after → mid ≡ with_progress (Link (reports ++ said ∷ []) device_after) e → StepsTo comes mid what new → DeviceAsks what e new
+pub report_keeps : (settings : ServerSettings) (reports : List ReportRecord) (device : Option ℕ) (parsed : ReportRecord) (device_after : Option ℕ) (e : Entry) (comes : Step) (mid : Entry) (what : Ask) (new : Entry) → e.progress ≡ Link reports device → FreshTalk (Link reports device) e → e.broken ≡ false → ParsesFirst e.read (reports ++ parsed ∷ [])
+    → StepsDevice (device_named settings) device parsed comes device_after → mid ≡ with_progress (Link (reports ++ parsed ∷ []) device_after) e → StepsTo comes mid what new → DeviceAsks what e new
 report_keeps settings reports None (HelloReport name) device_after e comes mid what new progress fresh sound first is after steps = named_keeps settings reports name (device_named settings name) device_after e comes mid what new progress is after steps
 report_keeps settings reports None (MediaReport names) device_after e comes mid what new progress fresh sound first is after steps = absurd is
 report_keeps settings reports None ReadyReport device_after e comes mid what new progress fresh sound first is after steps = absurd is
@@ -286,24 +286,24 @@ report_keeps settings reports None (PagesReport job printed) device_after e come
 report_keeps settings reports None (DoneReport job) device_after e comes mid what new progress fresh sound first is after steps = absurd is
 report_keeps settings reports None (FailReport job) device_after e comes mid what new progress fresh sound first is after steps = absurd is
 report_keeps settings reports None GoneReport device_after e comes mid what new progress fresh sound first is after steps = absurd is
-report_keeps settings reports (Some device) said device_after e comes mid what new progress fresh sound first ((it, same, is), named) after steps =
+report_keeps settings reports (Some device) parsed device_after e comes mid what new progress fresh sound first ((it, same, is), named) after steps =
     let asks : (what ≡ ask.Report device it) × (new ≡ finishing false mid) = subst (λ (s : Step). StepsTo s mid what new) is steps in
-    let whole : new ≡ finishing false (with_progress (Link (reports ++ said ∷ []) (Some device)) e) = asks.1 ∙ ap (finishing false) (after ∙ ap (λ (d : Option ℕ). with_progress (Link (reports ++ said ∷ []) d) e) named) in
+    let whole : new ≡ finishing false (with_progress (Link (reports ++ parsed ∷ []) (Some device)) e) = asks.1 ∙ ap (finishing false) (after ∙ ap (λ (d : Option ℕ). with_progress (Link (reports ++ parsed ∷ []) d) e) named) in
     let before : device_of e.progress ≡ Some device = ap device_of progress in
     inl (
-      subst IsDeviceAsk (sym asks.0) (later_nameless e.read reports device said it same (fresh sound) first),
+      subst IsDeviceAsk (sym asks.0) (later_nameless e.read reports device parsed it same (fresh sound) first),
       subst (λ (x : Entry). Ordered (λ d. []) (Some e) (Some x)) (sym whole) (record {
         counts = λ d is. ((before ∙ is.0, is.1), sym (append-nil e.due));
         breaks = λ d is. inl ((before ∙ is.0, is.1), refl);
         device = λ d is. before ∙ is;
-        fresh = λ fresh sound. has_more reports said;
+        fresh = λ fresh sound. has_more reports parsed;
         client = λ client. absurd (not_client e.progress reports (Some device) progress client);
-        stays = λ f is client. absurd (subst ClientTalk (sym (ap (λ (x : Entry). x.progress) (one_entry (finishing false (with_progress (Link (reports ++ said ∷ []) (Some device)) e)) f is))) client);
+        stays = λ f is client. absurd (subst ClientTalk (sym (ap (λ (x : Entry). x.progress) (one_entry (finishing false (with_progress (Link (reports ++ parsed ∷ []) (Some device)) e)) f is))) client);
       }),
     )
 
 pub device_keeps : (settings : ServerSettings) (reports : List ReportRecord) (device : Option ℕ) (e : Entry) (comes : Step) (mid : Entry) (what : Ask) (new : Entry) → e.progress ≡ Link reports device → FreshTalk (Link reports device) e → e.broken ≡ false → ItemComes settings (Link reports device) e comes mid → StepsTo comes mid what new → DeviceAsks what e new
-device_keeps settings reports device e comes mid what new progress fresh sound (inl next) steps = report_keeps settings reports device next.said next.device_after e comes mid what new progress fresh sound next.next next.comes next.after steps
+device_keeps settings reports device e comes mid what new progress fresh sound (inl next) steps = report_keeps settings reports device next.parsed next.device_after e comes mid what new progress fresh sound next.next next.comes next.after steps
 device_keeps settings reports device e comes mid what new progress fresh sound (inr (inl next)) steps =
     let breaks : (what ≡ ask.Fault device) × (new ≡ broken mid) = subst (λ (s : Step). StepsTo s mid what new) next.comes steps in
     link_breaks what (ask.Fault device) e mid new breaks.0 tt breaks.1 (ap (λ (x : Entry). x.due) next.after) (λ d is. ap (λ (x : Entry). device_of x.progress) (sym next.after) ∙ is) (λ client. absurd (not_client e.progress reports device progress client))

@@ -107,17 +107,17 @@ module _ (steps : StepsOnce) (queries : SameQueries) (asks : AsksOne) where
   greets moment key id device name l hs rest a ks more b e (inr (inr (old, is, p))) (inr (inl (other, its, q))) = one_ending device key other old l its is
   greets moment key id device name l hs rest a ks more b e (inr (inr (old, is, p))) (inr (inr (other, its, q))) = (turned_away key id device).one l hs rest a ks more b e p q
 
-  pub same_report : (moment device other : ℕ) (one said : Report) → device ≡ other → report_of one ≡ report_of said → Alike (Unanswered moment (Is.Report device one)) (Unanswered moment (Is.Report other said))
-  same_report moment device other one said same same_ask = unanswered_alike steps moment (Is.Report device one) (Is.Report other said) (same, same_ask) refl (λ s. tt) (λ s. tt)
+  pub same_report : (moment device other : ℕ) (one parsed : Report) → device ≡ other → report_of one ≡ report_of parsed → Alike (Unanswered moment (Is.Report device one)) (Unanswered moment (Is.Report other parsed))
+  same_report moment device other one parsed same same_ask = unanswered_alike steps moment (Is.Report device one) (Is.Report other parsed) (same, same_ask) refl (λ s. tt) (λ s. tt)
 
-  pub fixed_reports : (moment device : ℕ) (said : ReportRecord) → Fixed (ReportComes moment device said)
-  fixed_reports moment device said = record { one = λ l hs rest a ks more b e (one, is, p) (other, its, q). (same_report moment device device one other refl (is ∙ sym its)).one l hs rest a ks more b e p q }
+  pub fixed_reports : (moment device : ℕ) (parsed : ReportRecord) → Fixed (ReportComes moment device parsed)
+  fixed_reports moment device parsed = record { one = λ l hs rest a ks more b e (one, is, p) (other, its, q). (same_report moment device device one other refl (is ∙ sym its)).one l hs rest a ks more b e p q }
 
   -- ---- the asks of a connection
 
-  same_events : (moment key id : ℕ) (who other : Client) (event said : Event) → who ≡ other → SameEvent event said → Alike (ActsOn moment key id (ask.Event who event)) (ActsOn moment key id (ask.Event other said))
-  same_events moment key id who other event said same same_ask =
-      subst (λ (c : Client). Alike (ActsOn moment key id (ask.Event who event)) (ActsOn moment key id (ask.Event c said))) same (same_answered steps moment key id who event said same_ask (queries event said same_ask))
+  same_events : (moment key id : ℕ) (who other : Client) (event parsed : Event) → who ≡ other → SameEvent event parsed → Alike (ActsOn moment key id (ask.Event who event)) (ActsOn moment key id (ask.Event other parsed))
+  same_events moment key id who other event parsed same same_ask =
+      subst (λ (c : Client). Alike (ActsOn moment key id (ask.Event who event)) (ActsOn moment key id (ask.Event c parsed))) same (same_answered steps moment key id who event parsed same_ask (queries event parsed same_ask))
 
   fixed_does : (moment key id : ℕ) (what : Ask) → Fixed (ActsOn moment key id what)
   fixed_does moment key id ask.Nothing = fixed_nothing
@@ -126,23 +126,23 @@ module _ (steps : StepsOnce) (queries : SameQueries) (asks : AsksOne) where
   fixed_does moment key id (ask.Unread request) = fixed_dropped key id request
   fixed_does moment key id (ask.Lost part) = fixed_declines (place_of_part part) key id
   fixed_does moment key id (ask.Hello device name) = record { one = greets moment key id device name }
-  fixed_does moment key id (ask.Report device said) = fixed_report steps moment device said
+  fixed_does moment key id (ask.Report device parsed) = fixed_report steps moment device parsed
   fixed_does moment key id (ask.UnknownDevice name) = fixed_notifies (DeviceRefused id (why.UnknownName name))
   fixed_does moment key id (ask.Fault device) = fixed_notifies (DeviceRefused id (why.Fault device))
 
-  as_one : (moment key id : ℕ) (what said : Ask) → what ≡ said → Alike (ActsOn moment key id what) (ActsOn moment key id said)
-  as_one moment key id what said same = subst (λ (x : Ask). Alike (ActsOn moment key id what) (ActsOn moment key id x)) same (fixed_does moment key id what)
+  as_one : (moment key id : ℕ) (what parsed : Ask) → what ≡ parsed → Alike (ActsOn moment key id what) (ActsOn moment key id parsed)
+  as_one moment key id what parsed same = subst (λ (x : Ask). Alike (ActsOn moment key id what) (ActsOn moment key id x)) same (fixed_does moment key id what)
 
-  same_does : (moment key id : ℕ) (what said : Ask) → SameAsk what said → Alike (ActsOn moment key id what) (ActsOn moment key id said)
+  same_does : (moment key id : ℕ) (what parsed : Ask) → SameAsk what parsed → Alike (ActsOn moment key id what) (ActsOn moment key id parsed)
   same_does moment key id (ask.Event who event) (ask.Event other acted_on) same = same_events moment key id who other event acted_on same.0 same.1
   same_does moment key id (ask.Report device one) (ask.Report other acted_on) same = same_report moment device other one acted_on same.0 same.1
-  same_does moment key id ask.Nothing said same = as_one moment key id ask.Nothing said same
-  same_does moment key id (ask.Broke growth) said same = as_one moment key id (ask.Broke growth) said same
-  same_does moment key id (ask.Unread request) said same = as_one moment key id (ask.Unread request) said same
-  same_does moment key id (ask.Lost part) said same = as_one moment key id (ask.Lost part) said same
-  same_does moment key id (ask.Hello device name) said same = as_one moment key id (ask.Hello device name) said same
-  same_does moment key id (ask.UnknownDevice name) said same = as_one moment key id (ask.UnknownDevice name) said same
-  same_does moment key id (ask.Fault device) said same = as_one moment key id (ask.Fault device) said same
+  same_does moment key id ask.Nothing parsed same = as_one moment key id ask.Nothing parsed same
+  same_does moment key id (ask.Broke growth) parsed same = as_one moment key id (ask.Broke growth) parsed same
+  same_does moment key id (ask.Unread request) parsed same = as_one moment key id (ask.Unread request) parsed same
+  same_does moment key id (ask.Lost part) parsed same = as_one moment key id (ask.Lost part) parsed same
+  same_does moment key id (ask.Hello device name) parsed same = as_one moment key id (ask.Hello device name) parsed same
+  same_does moment key id (ask.UnknownDevice name) parsed same = as_one moment key id (ask.UnknownDevice name) parsed same
+  same_does moment key id (ask.Fault device) parsed same = as_one moment key id (ask.Fault device) parsed same
   same_does moment key id (ask.Event who event) ask.Nothing same = cc
   same_does moment key id (ask.Event who event) (ask.Broke growth) same = cc
   same_does moment key id (ask.Event who event) (ask.Unread request) same = cc
@@ -161,27 +161,27 @@ module _ (steps : StepsOnce) (queries : SameQueries) (asks : AsksOne) where
   same_does moment key id (ask.Report device one) (ask.Fault other) same = cc
 
   -- two asks of one entry are the same if their choices are
-  asked_one : (settings : ServerSettings) (o : Option Entry) (e d : Entry) (what said : Ask) (new after : Entry) → o ≡ Some e → o ≡ Some d → (one : AsksNext settings what e new) (other : AsksNext settings said d after)
-      → part_of one ≡ part_of other → lost_of what ≡ lost_of said → SameAsk what said × (new ≡ after)
-  asked_one settings o e d what said new after there is one other part lost =
-      (subst (λ (x : Entry). (it : AsksNext settings said x after) → part_of one ≡ part_of it → lost_of what ≡ lost_of said → SameAsk what said × (new ≡ after)) (same_entry o e d there is) (asks settings e what said new after one))
+  asked_one : (settings : ServerSettings) (o : Option Entry) (e d : Entry) (what parsed : Ask) (new after : Entry) → o ≡ Some e → o ≡ Some d → (one : AsksNext settings what e new) (other : AsksNext settings parsed d after)
+      → part_of one ≡ part_of other → lost_of what ≡ lost_of parsed → SameAsk what parsed × (new ≡ after)
+  asked_one settings o e d what parsed new after there is one other part lost =
+      (subst (λ (x : Entry). (it : AsksNext settings parsed x after) → part_of one ≡ part_of it → lost_of what ≡ lost_of parsed → SameAsk what parsed × (new ≡ after)) (same_entry o e d there is) (asks settings e what parsed new after one))
       other part lost
 
   same_asked : (part other : Option ℕ) (loss lost : Option Loss) → As.Asked part loss ≡ As.Asked other lost → (part ≡ other) × (loss ≡ lost)
   same_asked part other loss lost same = (cc, cc)
 
   -- two asks are one ask of one connection's number
-  record OneAsk (id : ℕ) (what : Ask) (other : ℕ) (said : Ask) : Type 0 where
+  record OneAsk (id : ℕ) (what : Ask) (other : ℕ) (parsed : Ask) : Type 0 where
     ids : id ≡ other
-    same_ask : SameAsk what said
+    same_ask : SameAsk what parsed
 
-  asks_one : (key id other : ℕ) (what said : Ask) (l : Ledger) (hs rest : List Happening) (a : Ledger) (ks more : List Happening) (b : Ledger) → hs ++ rest ≡ ks ++ more → Asks key id what l hs a → Asks key other said l ks b → OneAsk id what other said × (hs ≡ ks) × (a ≡ b)
-  asks_one key id other what said l hs rest a ks more b e p q =
+  asks_one : (key id other : ℕ) (what parsed : Ask) (l : Ledger) (hs rest : List Happening) (a : Ledger) (ks more : List Happening) (b : Ledger) → hs ++ rest ≡ ks ++ more → Asks key id what l hs a → Asks key other parsed l ks b → OneAsk id what other parsed × (hs ≡ ks) × (a ≡ b)
+  asks_one key id other what parsed l hs rest a ks more b e p q =
       let left = part_of p.asks in
       let right = part_of q.asks in
-      let choice : As.Asked left (lost_of what) ≡ As.Asked right (lost_of said) = same_choice (As.Asked left (lost_of what)) (As.Asked right (lost_of said)) (first_one (Chosen (As.Asked left (lost_of what))) (Chosen (As.Asked right (lost_of said))) hs rest ks more [] [] e p.chosen q.chosen) in
-      let chosen = same_asked left right (lost_of what) (lost_of said) choice in
-      let one = asked_one l.core.settings (l.entries key) p.entry q.entry what said p.new q.new p.there q.there p.asks q.asks chosen.0 chosen.1 in
+      let choice : As.Asked left (lost_of what) ≡ As.Asked right (lost_of parsed) = same_choice (As.Asked left (lost_of what)) (As.Asked right (lost_of parsed)) (first_one (Chosen (As.Asked left (lost_of what))) (Chosen (As.Asked right (lost_of parsed))) hs rest ks more [] [] e p.chosen q.chosen) in
+      let chosen = same_asked left right (lost_of what) (lost_of parsed) choice in
+      let one = asked_one l.core.settings (l.entries key) p.entry q.entry what parsed p.new q.new p.there q.there p.asks q.asks chosen.0 chosen.1 in
       let entry : p.entry ≡ q.entry = same_entry (l.entries key) p.entry q.entry p.there q.there in (
         record { ids = p.its ∙ (ap (λ (x : Entry). x.id) entry ∙ sym q.its); same_ask = one.0 },
         p.chosen ∙ (ap (λ (c : Choice). Chosen c ∷ []) choice ∙ sym q.chosen),
@@ -189,10 +189,10 @@ module _ (steps : StepsOnce) (queries : SameQueries) (asks : AsksOne) where
       )
 
   acts_one : (moment key : ℕ) (l : Ledger) (hs rest : List Happening) (a : Ledger) (ks more : List Happening) (b : Ledger) → hs ++ rest ≡ ks ++ more → ActsNext moment key l hs a → ActsNext moment key l ks b → (hs ≡ ks) × (a ≡ b)
-  acts_one moment key l hs rest a ks more b e (id, what, p) (other, said, q) =
-      let it = then_one (Asks key id what) (Asks key other said) (ActsOn moment key id what) (ActsOn moment key other said) l hs rest a ks more b e p q
-      (λ left right both. asks_one key id other what said l p.prefix left p.mid q.prefix right q.mid both p.first q.first)
-      (λ one. subst (λ (x : ℕ). Alike (ActsOn moment key id what) (ActsOn moment key x said)) one.ids (same_does moment key id what said one.same_ask)) in
+  acts_one moment key l hs rest a ks more b e (id, what, p) (other, parsed, q) =
+      let it = then_one (Asks key id what) (Asks key other parsed) (ActsOn moment key id what) (ActsOn moment key other parsed) l hs rest a ks more b e p q
+      (λ left right both. asks_one key id other what parsed l p.prefix left p.mid q.prefix right q.mid both p.first q.first)
+      (λ one. subst (λ (x : ℕ). Alike (ActsOn moment key id what) (ActsOn moment key x parsed)) one.ids (same_does moment key id what parsed one.same_ask)) in
       (it.1, it.2)
 
   pub fixed_acts_next : (moment key : ℕ) → Fixed (ActsNext moment key)

@@ -45,8 +45,8 @@ same_message one other id same =
     ∙ (ap (λ (attributes : List IppAttribute). reply_of other.status id (unsupported_of other.status attributes ++ one.groups)) same.unsupported
     ∙ ap (λ (groups : List IppGroup). reply_of other.status id (unsupported_of other.status other.unsupported ++ groups)) same.groups)
 
-pub same_bytes : (one other : IppResponse) (id : ℕ) (bytes said : List ℕ) → SameIppAnswer one other → IsReply one id bytes → IsReply other id said → bytes ≡ said
-same_bytes one other id bytes said same p q = p.spelt ∙ (ap spelling (same_message one other id same) ∙ sym q.spelt)
+pub same_bytes : (one other : IppResponse) (id : ℕ) (bytes parsed : List ℕ) → SameIppAnswer one other → IsReply one id bytes → IsReply other id parsed → bytes ≡ parsed
+same_bytes one other id bytes parsed same p q = p.spelt ∙ (ap spelling (same_message one other id same) ∙ sym q.spelt)
 
 pub same_text : (one other : QueueListing) → SameListing one other → queue_text one ≡ queue_text other
 same_text one other same =
@@ -67,10 +67,10 @@ found_reply : (key : ℕ) (bytes : List ℕ) → Begins is_choice true (Then (Ch
 found_reply key bytes = begins_then is_choice true (Chooses Found) (EnqueuesResponse key bytes) (begins_chooses is_choice true Found refl)
 
 replies_one : (key id request : ℕ) (query : Bool) (one other : IppResponse) → SameIppAnswer one other → (l : Ledger) (hs rest : List Happening) (a : Ledger) (ks more : List Happening) (b : Ledger) → hs ++ rest ≡ ks ++ more → RepliesWith key id request query (responds.Ipp one) l hs a → RepliesWith key id request query (responds.Ipp other) l ks b → (hs ≡ ks) × (a ≡ b)
-replies_one key id request query one other same l hs rest a ks more b e (inl (bytes, is, p)) (inl (said, its, q)) =
-    (alike_then (fixed_chooses Found) (fixed_reply key bytes)).one l hs rest a ks more b e p (subst (λ (x : List ℕ). Then (Chooses Found) (EnqueuesResponse key x) l ks b) (sym (same_bytes one other request bytes said same is its)) q)
+replies_one key id request query one other same l hs rest a ks more b e (inl (bytes, is, p)) (inl (parsed, its, q)) =
+    (alike_then (fixed_chooses Found) (fixed_reply key bytes)).one l hs rest a ks more b e p (subst (λ (x : List ℕ). Then (Chooses Found) (EnqueuesResponse key x) l ks b) (sym (same_bytes one other request bytes parsed same is its)) q)
 replies_one key id request query one other same l hs rest a ks more b e (inl (bytes, is, p)) (inr q) = apart is_choice hs rest ks more e ((found_reply key bytes).begins l hs a p) ((loses_first key id request query).begins l ks b q)
-replies_one key id request query one other same l hs rest a ks more b e (inr p) (inl (said, its, q)) = apart is_choice ks more hs rest (sym e) ((found_reply key said).begins l ks b q) ((loses_first key id request query).begins l hs a p)
+replies_one key id request query one other same l hs rest a ks more b e (inr p) (inl (parsed, its, q)) = apart is_choice ks more hs rest (sym e) ((found_reply key parsed).begins l ks b q) ((loses_first key id request query).begins l hs a p)
 replies_one key id request query one other same l hs rest a ks more b e (inr p) (inr q) = (loses_reply key id request query).one l hs rest a ks more b e p q
 
 same_replies : (key id request : ℕ) (query : Bool) (one other : Response) → SameAnswer one other → Alike (RepliesWith key id request query one) (RepliesWith key id request query other)
@@ -145,19 +145,19 @@ same_answered steps moment key id who event other same query =
 
 -- ---- a body that comes without HTTP
 
-answers_one : (request : ℕ) (one other : Effects) (bytes said : List ℕ) (l : Ledger) (hs rest : List Happening) (a : Ledger) (ks more : List Happening) (b : Ledger) → hs ++ rest ≡ ks ++ more → Between.Answers request (Some one) bytes l hs a → Between.Answers request (Some other) said l ks b → (hs ≡ ks) × (a ≡ b)
-answers_one request one other bytes said l hs rest a ks more b e (inl (are, p)) (inl (were, q)) = (fixed_chooses Found).one l hs rest a ks more b e p q
-answers_one request one other bytes said l hs rest a ks more b e (inl (are, p)) (inr q) = apart is_choice hs rest ks more e ((begins_chooses is_choice true Found refl).begins l hs a p) ((begins_notifies is_choice false (Refused At.Reply None) refl).begins l ks b q)
-answers_one request one other bytes said l hs rest a ks more b e (inr p) (inl (were, q)) = apart is_choice ks more hs rest (sym e) ((begins_chooses is_choice true Found refl).begins l ks b q) ((begins_notifies is_choice false (Refused At.Reply None) refl).begins l hs a p)
-answers_one request one other bytes said l hs rest a ks more b e (inr p) (inr q) = (fixed_notifies (Refused At.Reply None)).one l hs rest a ks more b e p q
+answers_one : (request : ℕ) (one other : Effects) (bytes parsed : List ℕ) (l : Ledger) (hs rest : List Happening) (a : Ledger) (ks more : List Happening) (b : Ledger) → hs ++ rest ≡ ks ++ more → Between.Answers request (Some one) bytes l hs a → Between.Answers request (Some other) parsed l ks b → (hs ≡ ks) × (a ≡ b)
+answers_one request one other bytes parsed l hs rest a ks more b e (inl (are, p)) (inl (were, q)) = (fixed_chooses Found).one l hs rest a ks more b e p q
+answers_one request one other bytes parsed l hs rest a ks more b e (inl (are, p)) (inr q) = apart is_choice hs rest ks more e ((begins_chooses is_choice true Found refl).begins l hs a p) ((begins_notifies is_choice false (Refused At.Reply None) refl).begins l ks b q)
+answers_one request one other bytes parsed l hs rest a ks more b e (inr p) (inl (were, q)) = apart is_choice ks more hs rest (sym e) ((begins_chooses is_choice true Found refl).begins l ks b q) ((begins_notifies is_choice false (Refused At.Reply None) refl).begins l hs a p)
+answers_one request one other bytes parsed l hs rest a ks more b e (inr p) (inr q) = (fixed_notifies (Refused At.Reply None)).one l hs rest a ks more b e p q
 
-none_between : (request : ℕ) (bytes said : List ℕ) → Alike (Between.Answers request None bytes) (Between.Answers request None said)
-none_between request bytes said = record { one = λ l hs rest a ks more b e p q. (fixed_notifies (Refused At.Event None)).one l hs rest a ks more b e p q }
+none_between : (request : ℕ) (bytes parsed : List ℕ) → Alike (Between.Answers request None bytes) (Between.Answers request None parsed)
+none_between request bytes parsed = record { one = λ l hs rest a ks more b e p q. (fixed_notifies (Refused At.Event None)).one l hs rest a ks more b e p q }
 
 first_between : (request : ℕ) (bytes : List ℕ) → Begins is_choice false (Between.Answers request None bytes)
 first_between request bytes = record { begins = λ l hs a it. (begins_notifies is_choice false (Refused At.Event None) refl).begins l hs a it }
 
-pub body_answered : (steps : StepsOnce) (moment request : ℕ) (event other : Event) (bytes said : List ℕ) → SameEvent event other → is_query event ≡ is_query other → Alike (Between.IsAnswered moment request event bytes) (Between.IsAnswered moment request other said)
-body_answered steps moment request event other bytes said same query =
-    answered_alike steps moment event other (λ reply. Between.Answers request reply bytes) (λ reply. Between.Answers request reply said) same query (first_between request bytes) (first_between request said) (none_between request bytes said)
-    (λ one two reads_as. record { one = answers_one request one two bytes said })
+pub body_answered : (steps : StepsOnce) (moment request : ℕ) (event other : Event) (bytes parsed : List ℕ) → SameEvent event other → is_query event ≡ is_query other → Alike (Between.IsAnswered moment request event bytes) (Between.IsAnswered moment request other parsed)
+body_answered steps moment request event other bytes parsed same query =
+    answered_alike steps moment event other (λ reply. Between.Answers request reply bytes) (λ reply. Between.Answers request reply parsed) same query (first_between request bytes) (first_between request parsed) (none_between request bytes parsed)
+    (λ one two reads_as. record { one = answers_one request one two bytes parsed })

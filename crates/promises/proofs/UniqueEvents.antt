@@ -50,18 +50,18 @@ kept_or (Some handled) = inl tt
 kept_or None = inr refl
 
 -- one outcome, one list of notes and one state
-pub record SameWay (one : Outcome) (notes : List Note) (new : State) (other : Outcome) (said : List Note) (after : State) : Type 0 where
+pub record SameWay (one : Outcome) (notes : List Note) (new : State) (other : Outcome) (parsed : List Note) (after : State) : Type 0 where
   pub outcome : SameOutcome one other
-  pub notes_are : notes ≡ said
+  pub notes_are : notes ≡ parsed
   pub state : new ≡ after
 
 notified_same : (one other : Effects) → SameReply one other → cancel_notes one ≡ cancel_notes other
 notified_same one other same = ap (λ (cancels : List Cancel). map Canceled cancels) same.cancels
 
 -- the notes after the same cancels are the same in part
-later_alike : (cancels : List Cancel) (later said : List Note) (rest more : List Happening) → map Notified (map Canceled cancels ++ later) ++ rest ≡ map Notified (map Canceled cancels ++ said) ++ more → map Notified later ++ rest ≡ map Notified said ++ more
-later_alike [] later said rest more e = e
-later_alike (cancel ∷ cancels) later said rest more e = later_alike cancels later said rest more (cc)
+later_alike : (cancels : List Cancel) (later parsed : List Note) (rest more : List Happening) → map Notified (map Canceled cancels ++ later) ++ rest ≡ map Notified (map Canceled cancels ++ parsed) ++ more → map Notified later ++ rest ≡ map Notified parsed ++ more
+later_alike [] later parsed rest more e = e
+later_alike (cancel ∷ cancels) later parsed rest more e = later_alike cancels later parsed rest more (cc)
 
 -- two notes, each the first of one list of happenings
 first_one : (notes acted_on : List Note) (x y : Note) (rest more : List Happening) → notes ≡ x ∷ [] → acted_on ≡ y ∷ [] → map Notified notes ++ rest ≡ map Notified acted_on ++ more → x ≡ y
@@ -80,13 +80,13 @@ abbrev planned_state : ℕ → State → PlanRecord → List Started → State
 planned_state now old plan started = record (beginning_all now started (marked_state now plan old)) { begun = started }
 
 -- one dispatch, one list of notes and one state
-record SameDispatch (made : Dispatch) (notes : List Note) (new : State) (said : Dispatch) (acted_on : List Note) (after : State) : Type 0 where
-  dispatch_is : made ≡ said
+record SameDispatch (made : Dispatch) (notes : List Note) (new : State) (parsed : Dispatch) (acted_on : List Note) (after : State) : Type 0 where
+  dispatch_is : made ≡ parsed
   notes_are : notes ≡ acted_on
   state : new ≡ after
 
 -- two dispatches of one state are the same, if one list of happenings follows both
-dispatched_one : (query other : Bool) (now : ℕ) (old : State) (made said : Dispatch) (notes acted_on : List Note) (new after : State) (rest more : List Happening) → query ≡ other → map Notified notes ++ rest ≡ map Notified acted_on ++ more → Follows query now old made notes new → Follows other now old said acted_on after → SameDispatch made notes new said acted_on after
+dispatched_one : (query other : Bool) (now : ℕ) (old : State) (made parsed : Dispatch) (notes acted_on : List Note) (new after : State) (rest more : List Happening) → query ≡ other → map Notified notes ++ rest ≡ map Notified acted_on ++ more → Follows query now old made notes new → Follows other now old parsed acted_on after → SameDispatch made notes new parsed acted_on after
 dispatched_one query other now old dispatch.Query dispatch.Query notes acted_on new after rest more same e (is, still, none) (its, stays, nothing) = record { dispatch_is = refl; notes_are = none ∙ sym nothing; state = still ∙ sym stays }
 dispatched_one query other now old dispatch.Query dispatch.OutOfMemory notes acted_on new after rest more same e p q = not_both query other same p.0 q.0
 dispatched_one query other now old dispatch.Query dispatch.Idle notes acted_on new after rest more same e p q = not_both query other same p.0 q.0
@@ -119,9 +119,9 @@ dispatched_one query other now old dispatch.Planned dispatch.Planned notes acted
 
 module _ (steps : StepsOnce) where
   -- the results of events with the same content are the same, if neither is dropped and one list of happenings follows both
-  pub handled_one : (moment : ℕ) (event other : Event) (old : State) (outcome said : Outcome) (notes acted_on : List Note) (new after : State) (rest more : List Happening) → SameEvent event other → is_query event ≡ is_query other → IsKept outcome → IsKept said
-      → map Notified notes ++ rest ≡ map Notified acted_on ++ more → Handles moment event old outcome notes new → Handles moment other old said acted_on after → SameWay outcome notes new said acted_on after
-  handled_one moment event other old None said notes acted_on new after rest more same query kept enqueues e p q = absurd kept
+  pub handled_one : (moment : ℕ) (event other : Event) (old : State) (outcome parsed : Outcome) (notes acted_on : List Note) (new after : State) (rest more : List Happening) → SameEvent event other → is_query event ≡ is_query other → IsKept outcome → IsKept parsed
+      → map Notified notes ++ rest ≡ map Notified acted_on ++ more → Handles moment event old outcome notes new → Handles moment other old parsed acted_on after → SameWay outcome notes new parsed acted_on after
+  handled_one moment event other old None parsed notes acted_on new after rest more same query kept enqueues e p q = absurd kept
   handled_one moment event other old (Some one) None notes acted_on new after rest more same query kept enqueues e p q = absurd enqueues
   handled_one moment event other old (Some one) (Some two) notes acted_on new after rest more same query kept enqueues e p q =
       let end = steps old event other moment one.effects p.mid two.effects q.mid same p.step q.step in
@@ -162,26 +162,26 @@ module _ (steps : StepsOnce) where
   after_head : (x : Happening) (xs ys : List Happening) → x ∷ xs ≡ x ∷ ys → xs ≡ ys
   after_head x xs ys same = cc
 
-  decided_one : (moment : ℕ) (event other : Event) (outcome said : Outcome) (l : Ledger) (hs rest : List Happening) (a : Ledger) (ks more : List Happening) (b : Ledger) → SameEvent event other → is_query event ≡ is_query other → IsKept outcome → IsKept said
-      → hs ++ rest ≡ ks ++ more → Decides moment event outcome l hs a → Decides moment other said l ks b → SameOutcome outcome said × (hs ≡ ks) × (a ≡ b)
-  decided_one moment event other outcome said l hs rest a ks more b same query kept enqueues e p q =
+  decided_one : (moment : ℕ) (event other : Event) (outcome parsed : Outcome) (l : Ledger) (hs rest : List Happening) (a : Ledger) (ks more : List Happening) (b : Ledger) → SameEvent event other → is_query event ≡ is_query other → IsKept outcome → IsKept parsed
+      → hs ++ rest ≡ ks ++ more → Decides moment event outcome l hs a → Decides moment other parsed l ks b → SameOutcome outcome parsed × (hs ≡ ks) × (a ≡ b)
+  decided_one moment event other outcome parsed l hs rest a ks more b same query kept enqueues e p q =
       let left : hs ≡ Chosen Found ∷ map Notified p.notes = p.notified ∙ ap (λ (xs : List Happening). xs ++ map Notified p.notes) (found_kept outcome kept) in
-      let right : ks ≡ Chosen Found ∷ map Notified q.notes = q.notified ∙ ap (λ (xs : List Happening). xs ++ map Notified q.notes) (found_kept said enqueues) in
+      let right : ks ≡ Chosen Found ∷ map Notified q.notes = q.notified ∙ ap (λ (xs : List Happening). xs ++ map Notified q.notes) (found_kept parsed enqueues) in
       let both : Chosen Found ∷ (map Notified p.notes ++ rest) ≡ Chosen Found ∷ (map Notified q.notes ++ more) = sym (ap (λ (xs : List Happening). xs ++ rest) left) ∙ (e ∙ ap (λ (xs : List Happening). xs ++ more) right) in
-      let way = handled_one moment event other l.core outcome said p.notes q.notes p.state q.state rest more same query kept enqueues (after_head (Chosen Found) (map Notified p.notes ++ rest) (map Notified q.notes ++ more) both) p.handles q.handles in (
+      let way = handled_one moment event other l.core outcome parsed p.notes q.notes p.state q.state rest more same query kept enqueues (after_head (Chosen Found) (map Notified p.notes ++ rest) (map Notified q.notes ++ more) both) p.handles q.handles in (
         way.outcome,
         left ∙ (ap (λ (ns : List Note). Chosen Found ∷ map Notified ns) way.notes_are ∙ sym right),
         p.after ∙ (ap (λ (s : State). record l { core = s; undispatched = undispatched_after outcome l.undispatched }) way.state
-            ∙ (ap (λ (t : Bool). record l { core = q.state; undispatched = t }) (same_undispatched outcome said l.undispatched way.outcome) ∙ sym q.after)),
+            ∙ (ap (λ (t : Bool). record l { core = q.state; undispatched = t }) (same_undispatched outcome parsed l.undispatched way.outcome) ∙ sym q.after)),
       )
 
   -- an event that isn't dropped, and the bytes that it sends to devices
-  happened_one : (moment : ℕ) (event other : Event) (outcome said : Outcome) (l : Ledger) (hs rest : List Happening) (a : Ledger) (ks more : List Happening) (b : Ledger) → SameEvent event other → is_query event ≡ is_query other → IsKept outcome → IsKept said
-      → hs ++ rest ≡ ks ++ more → Happens moment event outcome l hs a → Happens moment other said l ks b → SameOutcome outcome said × (hs ≡ ks) × (a ≡ b)
-  happened_one moment event other outcome said l hs rest a ks more b same query kept enqueues e p q =
-      then_one (Decides moment event outcome) (Decides moment other said) (Orders outcome) (Orders said) l hs rest a ks more b e p q
-      (λ left right both. decided_one moment event other outcome said l p.prefix left p.mid q.prefix right q.mid same query kept enqueues both p.first q.first)
-      (λ way. same_orders outcome said way)
+  happened_one : (moment : ℕ) (event other : Event) (outcome parsed : Outcome) (l : Ledger) (hs rest : List Happening) (a : Ledger) (ks more : List Happening) (b : Ledger) → SameEvent event other → is_query event ≡ is_query other → IsKept outcome → IsKept parsed
+      → hs ++ rest ≡ ks ++ more → Happens moment event outcome l hs a → Happens moment other parsed l ks b → SameOutcome outcome parsed × (hs ≡ ks) × (a ≡ b)
+  happened_one moment event other outcome parsed l hs rest a ks more b same query kept enqueues e p q =
+      then_one (Decides moment event outcome) (Decides moment other parsed) (Orders outcome) (Orders parsed) l hs rest a ks more b e p q
+      (λ left right both. decided_one moment event other outcome parsed l p.prefix left p.mid q.prefix right q.mid same query kept enqueues both p.first q.first)
+      (λ way. same_orders outcome parsed way)
 
   -- a dropped event changes nothing
   dropped_one : (moment : ℕ) (event : Event) (l : Ledger) (hs : List Happening) (a : Ledger) → Happens moment event None l hs a → (hs ≡ []) × (a ≡ l)
@@ -224,9 +224,9 @@ module _ (steps : StepsOnce) where
   pub answered_alike : (moment : ℕ) (event other : Event) (Q R : Option Effects → Rel) → SameEvent event other → is_query event ≡ is_query other → Begins is_choice false (Q None) → Begins is_choice false (R None) → Alike (Q None) (R None)
       → ((one two : Effects) → SameReply one two → Alike (Q (Some one)) (R (Some two)))
       → Alike (λ l hs a. (outcome : Outcome) × Then (Happens moment event outcome) (Q (effects_of outcome)) l hs a) (λ l hs a. (outcome : Outcome) × Then (Happens moment other outcome) (R (effects_of outcome)) l hs a)
-  answered_alike moment event other Q R same query notifies notified dropped answered = record { one = λ l hs rest a ks more b e (outcome, p) (said, q). by_kind outcome said l hs rest a ks more b e (kept_or outcome) (kept_or said) p q }
+  answered_alike moment event other Q R same query notifies notified dropped answered = record { one = λ l hs rest a ks more b e (outcome, p) (parsed, q). by_kind outcome parsed l hs rest a ks more b e (kept_or outcome) (kept_or parsed) p q }
     where
-      replies : (outcome said : Outcome) → SameOutcome outcome said → Alike (Q (effects_of outcome)) (R (effects_of said))
+      replies : (outcome parsed : Outcome) → SameOutcome outcome parsed → Alike (Q (effects_of outcome)) (R (effects_of parsed))
       replies (Some one) (Some two) way = answered one.effects two.effects way.effects_are
       replies None None way = dropped
       replies (Some one) None way = absurd way
@@ -244,18 +244,18 @@ module _ (steps : StepsOnce) where
       as_dropped : (x : Event) (S : Option Effects → Rel) (outcome : Outcome) (l : Ledger) (hs : List Happening) (a : Ledger) → outcome ≡ None → Then (Happens moment x outcome) (S (effects_of outcome)) l hs a → Then (Happens moment x None) (S None) l hs a
       as_dropped x S outcome l hs a is it = subst (λ (o : Outcome). Then (Happens moment x o) (S (effects_of o)) l hs a) is it
 
-      by_kind : (outcome said : Outcome) (l : Ledger) (hs rest : List Happening) (a : Ledger) (ks more : List Happening) (b : Ledger) → hs ++ rest ≡ ks ++ more → IsKept outcome ⊎ (outcome ≡ None) → IsKept said ⊎ (said ≡ None)
-          → Then (Happens moment event outcome) (Q (effects_of outcome)) l hs a → Then (Happens moment other said) (R (effects_of said)) l ks b → (hs ≡ ks) × (a ≡ b)
-      by_kind outcome said l hs rest a ks more b e (inl kept) (inl enqueues) p q =
-          let it = then_one (Happens moment event outcome) (Happens moment other said) (Q (effects_of outcome)) (R (effects_of said)) l hs rest a ks more b e p q
-          (λ left right both. happened_one moment event other outcome said l p.prefix left p.mid q.prefix right q.mid same query kept enqueues both p.first q.first)
-          (λ way. replies outcome said way) in
+      by_kind : (outcome parsed : Outcome) (l : Ledger) (hs rest : List Happening) (a : Ledger) (ks more : List Happening) (b : Ledger) → hs ++ rest ≡ ks ++ more → IsKept outcome ⊎ (outcome ≡ None) → IsKept parsed ⊎ (parsed ≡ None)
+          → Then (Happens moment event outcome) (Q (effects_of outcome)) l hs a → Then (Happens moment other parsed) (R (effects_of parsed)) l ks b → (hs ≡ ks) × (a ≡ b)
+      by_kind outcome parsed l hs rest a ks more b e (inl kept) (inl enqueues) p q =
+          let it = then_one (Happens moment event outcome) (Happens moment other parsed) (Q (effects_of outcome)) (R (effects_of parsed)) l hs rest a ks more b e p q
+          (λ left right both. happened_one moment event other outcome parsed l p.prefix left p.mid q.prefix right q.mid same query kept enqueues both p.first q.first)
+          (λ way. replies outcome parsed way) in
           (it.1, it.2)
-      by_kind outcome said l hs rest a ks more b e (inl kept) (inr is) p q = apart is_choice hs rest ks more e (chosen_first event Q outcome kept l hs a p) (notified_first other R notified l ks b (as_dropped other R said l ks b is q))
-      by_kind outcome said l hs rest a ks more b e (inr is) (inl enqueues) p q = apart is_choice ks more hs rest (sym e) (chosen_first other R said enqueues l ks b q) (notified_first event Q notifies l hs a (as_dropped event Q outcome l hs a is p))
-      by_kind outcome said l hs rest a ks more b e (inr is) (inr its) p q =
+      by_kind outcome parsed l hs rest a ks more b e (inl kept) (inr is) p q = apart is_choice hs rest ks more e (chosen_first event Q outcome kept l hs a p) (notified_first other R notified l ks b (as_dropped other R parsed l ks b is q))
+      by_kind outcome parsed l hs rest a ks more b e (inr is) (inl enqueues) p q = apart is_choice ks more hs rest (sym e) (chosen_first other R parsed enqueues l ks b q) (notified_first event Q notifies l hs a (as_dropped event Q outcome l hs a is p))
+      by_kind outcome parsed l hs rest a ks more b e (inr is) (inr its) p q =
           let left = as_dropped event Q outcome l hs a is p in
-          let right = as_dropped other R said l ks b its q in
+          let right = as_dropped other R parsed l ks b its q in
           let none = dropped_one moment event l left.prefix left.mid left.first in
           let nor = dropped_one moment other l right.prefix right.mid right.first in
           (alike_then fixed_nothing dropped).one l hs rest a ks more b e

@@ -219,17 +219,17 @@ module _ (steps : StepsOnce) (queries : SameQueries) (asks : AsksOne) (bodies : 
   body_asks moment asked.TooShort served other = record { one = λ l hs rest a ks more b e p q. fixed_nothing.one l hs rest a ks more b e p.1 q.1 }
   body_asks moment (asked.Refused status request) served other = record { one = λ l hs rest a ks more b e p q. refused_between.one l hs rest a ks more b e p.1 q.1 }
   body_asks moment (asked.Event request event) served other = record {
-    one = λ l hs rest a ks more b e (bytes, is, p) (said, its, q). (body_answered steps moment request event event bytes said (same_self event) refl).one l hs rest a ks more b e p q;
+    one = λ l hs rest a ks more b e (bytes, is, p) (parsed, its, q). (body_answered steps moment request event event bytes parsed (same_self event) refl).one l hs rest a ks more b e p q;
   }
 
   body_comes : (moment : ℕ) (body : List ℕ) (served other : Between.Outcome) (l : Ledger) (hs rest : List Happening) (a : Ledger) (ks more : List Happening) (b : Ledger) → hs ++ rest ≡ ks ++ more → BodyComes moment body served l hs a → BodyComes moment body other l ks b → (hs ≡ ks) × (a ≡ b)
-  body_comes moment body served other l hs rest a ks more b e (inl (one, is, p)) (inl (said, its, q)) =
-      let same : said ≡ one = bodies body said one its is in
+  body_comes moment body served other l hs rest a ks more b e (inl (one, is, p)) (inl (parsed, its, q)) =
+      let same : parsed ≡ one = bodies body parsed one its is in
       (alike_then (fixed_chooses Found) (body_asks moment one served other)).one l hs rest a ks more b e p (subst (λ (x : ParsedRequest). Then (Chooses Found) (BodyAsks moment x other) l ks b) same q)
   body_comes moment body served other l hs rest a ks more b e (inl (one, is, p)) (inr q) =
       apart is_choice hs rest ks more e ((begins_then is_choice true (Chooses Found) (BodyAsks moment one served) (begins_chooses is_choice true Found refl)).begins l hs a p) ((begins_notifies is_choice false (Refused At.Event None) refl).begins l ks b q)
-  body_comes moment body served other l hs rest a ks more b e (inr p) (inl (said, its, q)) =
-      apart is_choice ks more hs rest (sym e) ((begins_then is_choice true (Chooses Found) (BodyAsks moment said other) (begins_chooses is_choice true Found refl)).begins l ks b q) ((begins_notifies is_choice false (Refused At.Event None) refl).begins l hs a p)
+  body_comes moment body served other l hs rest a ks more b e (inr p) (inl (parsed, its, q)) =
+      apart is_choice ks more hs rest (sym e) ((begins_then is_choice true (Chooses Found) (BodyAsks moment parsed other) (begins_chooses is_choice true Found refl)).begins l ks b q) ((begins_notifies is_choice false (Refused At.Event None) refl).begins l hs a p)
   body_comes moment body served other l hs rest a ks more b e (inr p) (inr q) = (fixed_notifies (Refused At.Event None)).one l hs rest a ks more b e p q
 
   -- ---- traces
@@ -241,7 +241,7 @@ module _ (steps : StepsOnce) (queries : SameQueries) (asks : AsksOne) (bodies : 
   action_one : (action : Action) (l a b : Ledger) → DoesAction action l a → DoesAction action l b → a ≡ b
   action_one (Turned moment hs) l a b p q = all_one (Turn moment) (fixed_turn moment) l hs a b p q
   action_one (Served_body moment body answer hs) l a b (served, is, p) (other, its, q) = let it = body_comes moment body served other l hs [] a hs [] b refl p q in it.1
-  action_one (Reported moment device said hs) l a b p q = all_one (Between.Reports moment device said) (fixed_reports steps queries asks moment device said) l hs a b p q
+  action_one (Reported moment device parsed hs) l a b p q = all_one (Between.Reports moment device parsed) (fixed_reports steps queries asks moment device parsed) l hs a b p q
   action_one (Ticked moment hs) l a b p q = all_one (Ticks moment) (fixed_ticks moment) l hs a b p q
 
   pub leads_to_one : LeadsToOne

@@ -53,20 +53,20 @@ pub record Act : Type 0 where
   pub state : State
 
 -- the next item of an IPP client, by the bytes that were read
-pub record NextIpp (read : List ℕ) (said : List HttpElement) (closes : Bool) (body : List ℕ) (what : Step) (after : PeerRecord) : Type 0 where
+pub record NextIpp (read : List ℕ) (parsed : List HttpElement) (closes : Bool) (body : List ℕ) (what : Step) (after : PeerRecord) : Type 0 where
   pub item : HttpItem
   pub part : List ℕ
-  pub first : ParsesFirst read (said ++ elements_of item part)
+  pub first : ParsesFirst read (parsed ++ elements_of item part)
   pub comes : StepsIpp item closes body what
-  pub is : after ≡ Http (said ++ elements_of item part) (closes_after item closes) (body_after item what part body)
+  pub is : after ≡ Http (parsed ++ elements_of item part) (closes_after item closes) (body_after item what part body)
 
 -- the next item of an LPD client, by the bytes that were read
 pub record NextLpd (queues : List ℕ → Bool) (read : List ℕ) (items : List ItemRecord) (session : Option SessionState) (what : Step) (after : PeerRecord) : Type 0 where
-  pub said : ItemRecord
+  pub parsed : ItemRecord
   pub session_after : Option SessionState
-  pub first : Lpd.ParsesFirst read (items ++ said ∷ [])
-  pub comes : StepsLpd queues session said what session_after
-  pub is : after ≡ Queue (items ++ said ∷ []) session_after
+  pub first : Lpd.ParsesFirst read (items ++ parsed ∷ [])
+  pub comes : StepsLpd queues session parsed what session_after
+  pub is : after ≡ Queue (items ++ parsed ∷ []) session_after
 
 -- the bytes that were read of an LPD client have a fault after its items: the fault is refused, and the connection drains
 pub record FaultLpd (read : List ℕ) (items : List ItemRecord) (session : Option SessionState) (what : Step) (after : PeerRecord) : Type 0 where
@@ -77,7 +77,7 @@ pub record FaultLpd (read : List ℕ) (items : List ItemRecord) (session : Optio
 
 -- the next item by the bytes that were read, or a fault
 abbrev pub IsNext : ServerSettings → List ℕ → PeerRecord → Step → PeerRecord → Type 0
-IsNext settings read (Http said closes body) what after = NextIpp read said closes body what after
+IsNext settings read (Http parsed closes body) what after = NextIpp read parsed closes body what after
 IsNext settings read (Queue items session) what after = NextLpd (is_queue settings) read items session what after ⊎ FaultLpd read items session what after
 IsNext settings read (Link reports device) what after = ⊥
 
@@ -231,7 +231,7 @@ pub record IsCutOff (opening : State) (key : ℕ) (handled : List RunPart) (e : 
 
 -- the connection is that of a client, not of a device
 abbrev pub ClientTalk : PeerRecord → Type 0
-ClientTalk (Http said closes body) = Unit {0}
+ClientTalk (Http parsed closes body) = Unit {0}
 ClientTalk (Queue items session) = Unit {0}
 ClientTalk (Link reports device) = ⊥
 
@@ -245,7 +245,7 @@ WasCutOff opening handled e = ClientTalk e.progress → e.broken ≡ true → (k
 
 -- the items acted on are a prefix of those that the bytes read contain, by HTTP or by RFC 1179
 abbrev pub IsFirst : List ℕ → PeerRecord → Type 0
-IsFirst read (Http said closes body) = ParsesFirst read said
+IsFirst read (Http parsed closes body) = ParsesFirst read parsed
 IsFirst read (Queue items session) = Lpd.ParsesFirst read items
 IsFirst read (Link reports device) = Unit {0}
 

@@ -16,14 +16,14 @@ use Rattle.server.specs.Refinement.{Represents, RefinesTurn, RefinesCall, Refine
 pub data Call : Type 0 where
   TakesTurn : (moment : ℕ) → Call
   Serves : (moment : ℕ) (body : List ℕ) → Call
-  Reports : (moment device : ℕ) (said : ReportRecord) → Call
+  Reports : (moment device : ℕ) (parsed : ReportRecord) → Call
   Ticks : (moment : ℕ) → Call
 
 -- the change that the call's contract makes of a wire, an observer and an engine; a call between turns leaves the wire unchanged
 abbrev pub ByContract : {W N : Type 0} → (W → Poll → W → Type 0) → (N → Note → N → Type 0) → Call → W × N → EngineState → W × N → EngineState → Type 0
 ByContract polled notified (TakesTurn moment) u old v new = RefinesTurn (both polled notified) moment u old v new
 ByContract polled notified (Serves moment body) u old v new = (answer : Outcome) × (v.0 ≡ u.0) × RefinesBody (alone notified) moment body u.1 old v.1 new answer
-ByContract polled notified (Reports moment device said) u old v new = (result : Result (Unit {0}) AllocError) × (v.0 ≡ u.0) × RefinesCall (alone notified) (Reported moment device said) u.1 old v.1 new result
+ByContract polled notified (Reports moment device parsed) u old v new = (result : Result (Unit {0}) AllocError) × (v.0 ≡ u.0) × RefinesCall (alone notified) (Reported moment device parsed) u.1 old v.1 new result
 ByContract polled notified (Ticks moment) u old v new = (result : Result (Unit {0}) AllocError) × (v.0 ≡ u.0) × RefinesCall (alone notified) (Ticked moment) u.1 old v.1 new result
 
 -- calls, one after the other
@@ -35,7 +35,7 @@ AreMade {W} {N} polled notified (call ∷ calls) u old v new = (w : W × N) × (
 abbrev pub IsOf : Call → Action → Type 0
 IsOf (TakesTurn moment) (Turned at hs) = at ≡ moment
 IsOf (Serves moment body) (Served_body at bytes answer hs) = (at ≡ moment) × (bytes ≡ body)
-IsOf (Reports moment device said) (Reported at place report hs) = (at ≡ moment) × (place ≡ device) × (report ≡ said)
+IsOf (Reports moment device parsed) (Reported at place report hs) = (at ≡ moment) × (place ≡ device) × (report ≡ parsed)
 IsOf (Ticks moment) (Ticked at hs) = at ≡ moment
 IsOf _ _ = ⊥
 

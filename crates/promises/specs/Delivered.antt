@@ -60,14 +60,14 @@ reports_by device came = flat_map (report_by device) came
 -- ---- the reports of a device on its connections
 
 -- the reports in the whole lines of a device's connection
-abbrev pub said_on : PeerRecord → List ReportRecord
-said_on (Http said closes body) = []
-said_on (Queue items session) = []
-said_on (Link reports device) = reports
+abbrev pub reports_given : PeerRecord → List ReportRecord
+reports_given (Http parsed closes body) = []
+reports_given (Queue items session) = []
+reports_given (Link reports device) = reports
 
 -- a whole connection: its reports, and then that the device is gone
 abbrev pub life_of : PeerRecord → List ReportRecord
-life_of progress = said_on progress ++ GoneReport ∷ []
+life_of progress = reports_given progress ++ GoneReport ∷ []
 
 -- the device gave its name on the connection, and has had no other connection since
 abbrev pub is_of : ℕ → PeerRecord → Bool
@@ -105,7 +105,7 @@ pub record IsReported (device : ℕ) (notified : List ReportRecord) (l : Ledger)
 
 -- the reports acted on are the first reports of a prefix of the bytes read
 abbrev pub IsRead : Entry → Type 0
-IsRead e = (prefix : List ℕ) × (rest : List ℕ) × (e.read ≡ prefix ++ rest) × ParsesFirst prefix (said_on e.progress)
+IsRead e = (prefix : List ℕ) × (rest : List ℕ) × (e.read ≡ prefix ++ rest) × ParsesFirst prefix (reports_given e.progress)
 
 -- a state of the run: the opening, or the state after an event
 abbrev pub IsStateIn : State → State → List Came → Type 0

@@ -98,34 +98,34 @@ pub record AreExchanges (id : ℕ) (acted_on : List HttpElement) (handled : List
   pub each : All (λ (x : Exchange). IsExchange id x) exchanges
   pub prefix : Prefix
   pub refusal : Option HttpRejection
-  pub said : acted_on ≡ flat_map elements_of_exchange exchanges ++ (elements_of_prefix prefix ++ elements_of_refusal refusal)
+  pub parsed : acted_on ≡ flat_map elements_of_exchange exchanges ++ (elements_of_prefix prefix ++ elements_of_refusal refusal)
   pub asked : handled ≡ flat_map (λ (x : Exchange). x.asked) exchanges
   pub due : bytes ≡ flat_map due_in exchanges ++ (due_prefix prefix ++ due_refusal refusal)
 
 -- all acts of an IPP client are such exchanges
 abbrev pub ActsAreExchanges : Type 0
 ActsAreExchanges =
-    (id : ℕ) (acts : List Act) (said : List HttpElement) (closes : Bool) (body : List ℕ) → AreActs id (opening_peer Ipp) acts (Http said closes body)
-    → AreExchanges id said (flat_map (λ (a : Act). a.asked) acts) (flat_map (λ (a : Act). a.bytes) acts)
+    (id : ℕ) (acts : List Act) (parsed : List HttpElement) (closes : Bool) (body : List ℕ) → AreActs id (opening_peer Ipp) acts (Http parsed closes body)
+    → AreExchanges id parsed (flat_map (λ (a : Act). a.asked) acts) (flat_map (λ (a : Act). a.bytes) acts)
 
 -- the events asked on a connection since it was accepted, and the bytes due on it, are those of exchanges
-pub record ByExchanges (key : ℕ) (handled : List RunPart) (said : List HttpElement) (e : Entry) : Type 0 where
+pub record ByExchanges (key : ℕ) (handled : List RunPart) (parsed : List HttpElement) (e : Entry) : Type 0 where
   pub earlier : List RunPart
   pub since : List RunPart
   pub whole : handled ≡ earlier ++ since
-  pub are : AreExchanges e.id said (asked_by key since) e.due
+  pub are : AreExchanges e.id parsed (asked_by key since) e.due
 
 -- at most one more item was acted on
 abbrev pub IsOneMore : List HttpElement → List HttpElement → Type 0
-IsOneMore until said = (said ≡ until) ⊎ ((item : HttpItem) × (part : List ℕ) × (said ≡ until ++ elements_of item part))
+IsOneMore until parsed = (parsed ≡ until) ⊎ ((item : HttpItem) × (part : List ℕ) × (parsed ≡ until ++ elements_of item part))
 
 -- A connection broke: the bytes due are those of the exchanges before, and at most one more event was asked, which has no answer, with at most one more refusal of memory.
-pub record UntilBroken (key : ℕ) (handled : List RunPart) (said : List HttpElement) (e : Entry) : Type 0 where
+pub record UntilBroken (key : ℕ) (handled : List RunPart) (parsed : List HttpElement) (e : Entry) : Type 0 where
   pub earlier : List RunPart
   pub since : List RunPart
   pub whole : handled ≡ earlier ++ since
   pub until : List HttpElement
-  pub last : IsOneMore until said
+  pub last : IsOneMore until parsed
   pub answered : List RunPart
   pub unanswered : List RunPart
   pub asked : asked_by key since ≡ answered ++ unanswered
@@ -133,7 +133,7 @@ pub record UntilBroken (key : ℕ) (handled : List RunPart) (said : List HttpEle
   pub are : AreExchanges e.id until answered e.due
 
 abbrev pub IsByExchanges : ℕ → List RunPart → PeerRecord → Entry → Type 0
-IsByExchanges key handled (Http said closes body) e = (e.broken ≡ false → ByExchanges key handled said e) × (e.broken ≡ true → UntilBroken key handled said e)
+IsByExchanges key handled (Http parsed closes body) e = (e.broken ≡ false → ByExchanges key handled parsed e) × (e.broken ≡ true → UntilBroken key handled parsed e)
 IsByExchanges key handled progress e = Unit {0}
 
 -- a connection that was closed has this property, by the events before

@@ -27,7 +27,7 @@ keyed hs = flat_map keyed_one hs
 abbrev pub keyed_of : Action → Action
 keyed_of (Turned moment hs) = Turned moment (keyed hs)
 keyed_of (Served_body moment body answer hs) = Served_body moment body answer (keyed hs)
-keyed_of (Reported moment device said hs) = Reported moment device said (keyed hs)
+keyed_of (Reported moment device parsed hs) = Reported moment device parsed (keyed hs)
 keyed_of (Ticked moment hs) = Ticked moment (keyed hs)
 
 abbrev pub keyed_in : Trace → Trace

@@ -14,7 +14,7 @@ use Rattle.server.specs.Turn.{Trace, Runs}
 
 -- two events with the same content lead a state to the same end
 abbrev pub StepsOnce : Type 0
-StepsOnce = (old : State) (one other : Event) (moment : ℕ) (reply : Effects) (new : State) (said : Effects) (after : State) → SameEvent one other → Step old one moment reply new → Step old other moment said after → SameEnd reply new said after
+StepsOnce = (old : State) (one other : Event) (moment : ℕ) (reply : Effects) (new : State) (parsed : Effects) (after : State) → SameEvent one other → Step old one moment reply new → Step old other moment parsed after → SameEnd reply new parsed after
 
 -- two events with the same content both are queries, or neither is
 abbrev pub SameQueries : Type 0
@@ -22,7 +22,7 @@ SameQueries = (one other : Event) → SameEvent one other → is_query one ≡ i
 
 -- two parsed requests of one body are equal
 abbrev pub AsksOnce : Type 0
-AsksOnce = (body : List ℕ) (given said : ParsedRequest) → Asks body given → Asks body said → given ≡ said
+AsksOnce = (body : List ℕ) (given parsed : ParsedRequest) → Asks body given → Asks body parsed → given ≡ parsed
 
 -- two ledgers to which a trace leads from one ledger are equal
 abbrev pub LeadsToOne : Type 0

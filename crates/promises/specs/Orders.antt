@@ -55,7 +55,7 @@ hello_in turn device _ = None
 
 -- the device that gives its name on its connection by an event: each HELLO in a turn gives the name, and none between turns
 abbrev pub named_by : Bool → Event → Option ℕ
-named_by turn (Is.Report device said) = hello_in turn device said
+named_by turn (Is.Report device parsed) = hello_in turn device parsed
 named_by turn _ = None
 
 abbrev pub naming : Bool → Happened → Option ℕ
@@ -65,7 +65,7 @@ naming turn (MemoryRefused place id) = None
 abbrev pub is_turn : Action → Bool
 is_turn (Turned moment hs) = true
 is_turn (Served_body moment body answer hs) = false
-is_turn (Reported moment device said hs) = false
+is_turn (Reported moment device parsed hs) = false
 is_turn (Ticked moment hs) = false
 
 -- the part is at this moment, in a turn or not

@@ -102,16 +102,16 @@ fn read_id(digits: &[u8]) -> Option<WireId> {
 }
 
 /// Reads the word for a door and a number.
-fn read_accepted(said: &[u8]) -> Option<Entry> {
-    let (word, digits) = cut_at(said, b' ')?;
+fn read_accepted(operands: &[u8]) -> Option<Entry> {
+    let (word, digits) = cut_at(operands, b' ')?;
     let door = Door::of_word(word)?;
     let id = read_id(digits)?;
     Some(Entry::Accepted(Accepted { door, id }))
 }
 
 /// Reads a number and bytes, at least one.
-fn read_came(alloc: Global, said: &[u8]) -> Result<Option<Entry>, AllocError> {
-    let Some((digits, written)) = cut_at(said, b' ') else {
+fn read_came(alloc: Global, operands: &[u8]) -> Result<Option<Entry>, AllocError> {
+    let Some((digits, written)) = cut_at(operands, b' ') else {
         return Ok(None);
     };
     let Some(id) = read_id(digits) else {
@@ -124,8 +124,8 @@ fn read_came(alloc: Global, said: &[u8]) -> Result<Option<Entry>, AllocError> {
 }
 
 /// Reads a number, the number of octets that follow, and the octets, at least one.
-fn read_octets(alloc: Global, said: &[u8]) -> Result<Option<Entry>, AllocError> {
-    let Some((digits, counted)) = cut_at(said, b' ') else {
+fn read_octets(alloc: Global, operands: &[u8]) -> Result<Option<Entry>, AllocError> {
+    let Some((digits, counted)) = cut_at(operands, b' ') else {
         return Ok(None);
     };
     let Some((_, octets)) = cut_at(counted, b'\n') else {
@@ -143,8 +143,8 @@ fn read_octets(alloc: Global, said: &[u8]) -> Result<Option<Entry>, AllocError> 
 }
 
 /// Reads a number, the number of zeros, at least one, and the bytes before them.
-fn read_zeros(alloc: Global, said: &[u8]) -> Result<Option<Entry>, AllocError> {
-    let Some((digits, more)) = cut_at(said, b' ') else {
+fn read_zeros(alloc: Global, operands: &[u8]) -> Result<Option<Entry>, AllocError> {
+    let Some((digits, more)) = cut_at(operands, b' ') else {
         return Ok(None);
     };
     let Some((count, written)) = cut_at(more, b' ') else {
@@ -159,8 +159,8 @@ fn read_zeros(alloc: Global, said: &[u8]) -> Result<Option<Entry>, AllocError> {
 
 /// The number of octets that follow this line as they are, before a line feed. `None` if none follow.
 pub fn octets_after(line: &[u8]) -> Option<usize> {
-    let said = line.strip_prefix(b"octets ")?;
-    let (_, count) = cut_at(said, b' ')?;
+    let operands = line.strip_prefix(b"octets ")?;
+    let (_, count) = cut_at(operands, b' ')?;
     Some(read_id(count)? as usize)
 }
 
@@ -173,8 +173,8 @@ fn read_sum(word: &[u8]) -> Option<Option<u32>> {
 }
 
 /// Reads a number, the number of bytes, and their sum.
-fn read_sent(said: &[u8]) -> Option<Entry> {
-    let (digits, more) = cut_at(said, b' ')?;
+fn read_sent(operands: &[u8]) -> Option<Entry> {
+    let (digits, more) = cut_at(operands, b' ')?;
     let (count, sum) = cut_at(more, b' ')?;
     let id = read_id(digits)?;
     let count = read_id(count)?;
@@ -227,28 +227,28 @@ fn is_written_so(alloc: Global, entry: &Entry, line: &[u8]) -> Result<bool, Allo
 
 /// Reads a line with numbers in any written form. The only error is out of memory.
 fn read_any(alloc: Global, line: &[u8]) -> Result<Option<Entry>, AllocError> {
-    if let Some(said) = line.strip_prefix(b"read ") {
-        return read_came(alloc, said);
+    if let Some(operands) = line.strip_prefix(b"read ") {
+        return read_came(alloc, operands);
     }
-    if let Some(said) = line.strip_prefix(b"octets ") {
-        return read_octets(alloc, said);
+    if let Some(operands) = line.strip_prefix(b"octets ") {
+        return read_octets(alloc, operands);
     }
-    if let Some(said) = line.strip_prefix(b"zeros ") {
-        return read_zeros(alloc, said);
+    if let Some(operands) = line.strip_prefix(b"zeros ") {
+        return read_zeros(alloc, operands);
     }
     Ok(read_plain(line))
 }
 
 /// Reads a line without bytes, with numbers in any written form.
 fn read_plain(line: &[u8]) -> Option<Entry> {
-    if let Some(said) = line.strip_prefix(b"sent ") {
-        return read_sent(said);
+    if let Some(operands) = line.strip_prefix(b"sent ") {
+        return read_sent(operands);
     }
     if let Some(digits) = line.strip_prefix(b"turn ") {
         return read_turn(digits);
     }
-    if let Some(said) = line.strip_prefix(b"accept ") {
-        return read_accepted(said);
+    if let Some(operands) = line.strip_prefix(b"accept ") {
+        return read_accepted(operands);
     }
     if line == b"refused".as_slice() {
         return Some(Entry::Refused);

@@ -32,8 +32,8 @@ fn read_options(words: &[u8]) -> Option<(bool, JobId)> {
 
 /// The words of the line after the settings; `None` if it isn't such a line.
 pub fn read_start(line: &[u8]) -> Option<Start<'_>> {
-    let said = line.strip_prefix(b"recorded ")?;
-    let (digits, more) = cut_at(said, b' ')?;
+    let operands = line.strip_prefix(b"recorded ")?;
+    let (digits, more) = cut_at(operands, b' ')?;
     let (version, words) = cut_at(more, b' ').unwrap_or((more, b""));
     let began = number_up_to(digits, LATEST)?;
     let (heads, first) = read_options(words)?;

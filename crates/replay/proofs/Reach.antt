@@ -6,7 +6,7 @@ use Rattle.server.specs.Refinement.{IsAt}
 use Rattle.server.specs.Turn.{Trace}
 use Rattle.program.specs.declared.exit_status.ExitStatus.{ExitStatus}
 use Rattle.program.specs.declared.exit_status.ExitStatus.TheVariants as Ends
-use Rattle.program.specs.Said.{ProgramOutput, refused_as, said_after}
+use Rattle.program.specs.Output.{ProgramOutput, refused_as, output_after}
 use Rattle.replay.specs.declared.play.Play.{Play}
 use Rattle.traces.specs.declared.line.Line.{Line}
 use Rattle.traces.specs.declared.line_fault.LineFault.{LineFault}
@@ -27,11 +27,11 @@ pub record Reached (texts : Bool) (names : List (List ℕ)) (first : ℕ) (all :
   pub passed : List (List ℕ)
   pub whole : all ≡ passed ++ rest
   pub moves : Moves start actions engine
-  pub gives : (tail : List (List ℕ)) (later : Trace) (said : ProgramOutput) → LinesPlay texts names number tail now later said → LinesPlay texts names first (passed ++ tail) begun (actions ++ later) (said_after done said)
+  pub gives : (tail : List (List ℕ)) (later : Trace) (output : ProgramOutput) → LinesPlay texts names number tail now later output → LinesPlay texts names first (passed ++ tail) begun (actions ++ later) (output_after done output)
 
 -- before the first line
 pub reached_start : (texts : Bool) (names : List (List ℕ)) (number : ℕ) (lines : List (List ℕ)) (now : Standing) (engine : EngineState) → Reached texts names number lines now engine [] number lines now engine
-reached_start texts names number lines now engine = record { actions = []; passed = []; whole = refl; moves = moves_nothing engine; gives = λ tail later said h. h }
+reached_start texts names number lines now engine = record { actions = []; passed = []; whole = refl; moves = moves_nothing engine; gives = λ tail later output h. h }
 
 -- one line more
 reached_next : (texts : Bool) (names : List (List ℕ)) (first : ℕ) (all : List (List ℕ)) (begun : Standing) (start : EngineState) (done : List ℕ) (number : ℕ) (bytes : List ℕ) (more : List (List ℕ)) (now : Standing) (engine : EngineState) (line : Line) (here : Trace) (text : List ℕ) (new : Standing) (after : EngineState)
@@ -42,11 +42,11 @@ reached_next texts names first all begun start done number bytes more now engine
   passed = r.passed ++ bytes ∷ [];
   whole = r.whole ∙ sym (append_assoc r.passed (bytes ∷ []) more);
   moves = moves_then start engine after r.actions here r.moves moves;
-  gives = λ tail later said h.
-      let step = r.gives (bytes ∷ tail) (here ++ later) (said_after text said) (inr (line, here, text, new, later, said, is, comes, plays, h, refl, refl)) in
-      subst (λ ls. LinesPlay texts names first ls begun ((r.actions ++ here) ++ later) (record said { text = (done ++ text) ++ said.text })) (sym (append_assoc r.passed (bytes ∷ []) tail))
-      (subst (λ ds. LinesPlay texts names first (r.passed ++ bytes ∷ tail) begun ds (record said { text = (done ++ text) ++ said.text })) (sym (append_assoc r.actions here later))
-      (subst (λ t. LinesPlay texts names first (r.passed ++ bytes ∷ tail) begun (r.actions ++ (here ++ later)) (record said { text = t })) (sym (append_assoc done text said.text)) step));
+  gives = λ tail later output h.
+      let step = r.gives (bytes ∷ tail) (here ++ later) (output_after text output) (inr (line, here, text, new, later, output, is, comes, plays, h, refl, refl)) in
+      subst (λ ls. LinesPlay texts names first ls begun ((r.actions ++ here) ++ later) (record output { text = (done ++ text) ++ output.text })) (sym (append_assoc r.passed (bytes ∷ []) tail))
+      (subst (λ ds. LinesPlay texts names first (r.passed ++ bytes ∷ tail) begun ds (record output { text = (done ++ text) ++ output.text })) (sym (append_assoc r.actions here later))
+      (subst (λ t. LinesPlay texts names first (r.passed ++ bytes ∷ tail) begun (r.actions ++ (here ++ later)) (record output { text = t })) (sym (append_assoc done text output.text)) step));
 }
 
 -- after the last line
@@ -67,7 +67,7 @@ left_off play now number next lines rest before done left r is = record {
   cut = r.whole;
   plays = record {
     actions = r.actions;
-    said = record { text = done; status = Ends.Done };
+    output = record { text = done; status = Ends.Done };
     new = now.engine;
     plays = at_end _ _ _ _ _ _ _ _ _ _ _ r;
     moves = r.moves;
@@ -82,7 +82,7 @@ all_done play now number next lines rest before done left r none is =
     let passed : r.passed ≡ lines = sym (append-nil r.passed) ∙ ap (λ ls. r.passed ++ ls) (sym none) ∙ sym r.whole in
     record {
       actions = r.actions;
-      said = record { text = done; status = Ends.Done };
+      output = record { text = done; status = Ends.Done };
       new = now.engine;
       plays = subst (λ ls. LinesPlay play.log.texts play.log.names number ls (standing play) r.actions (record { text = done; status = Ends.Done })) passed (at_end _ _ _ _ _ _ _ _ _ _ _ r);
       moves = r.moves;
@@ -99,9 +99,9 @@ at_bad play now number next printed lines rest before done left bytes more statu
     let whole : r.passed ++ bytes ∷ more ≡ lines = ap (λ ls. r.passed ++ ls) (sym cut) ∙ sym r.whole in
     record {
       actions = r.actions ++ [];
-      said = said_after done refused;
+      output = output_after done refused;
       new = now.engine;
-      plays = subst (λ ls. LinesPlay play.log.texts play.log.names number ls (standing play) (r.actions ++ []) (said_after done refused)) whole step;
+      plays = subst (λ ls. LinesPlay play.log.texts play.log.names number ls (standing play) (r.actions ++ []) (output_after done refused)) whole step;
       moves = subst (λ ds. Moves play.engine ds now.engine) (sym (append-nil r.actions)) r.moves;
       printed = rw (is, ends, same) refl;
     }

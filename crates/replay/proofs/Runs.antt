@@ -24,7 +24,7 @@ use Rattle.dispatcher.specs.Notes.{Note, Notifies}
 use Rattle.server.specs.Polls.{Happening, Polled, Notified, Chosen, seen}
 use Rattle.server.specs.Turn.{Outcome as Given, Replied, BadRequest, OutOfMemory, Action, Served_body, Reported, Ticked, Trace, Allows}
 use Rattle.server.proofs.Laws.{action_seen, none_seen, seen_apart}
-use Rattle.program.specs.Said.{ProgramOutput, said_after}
+use Rattle.program.specs.Output.{ProgramOutput, output_after}
 use Rattle.traces.specs.declared.line.Line.{Line}
 use Rattle.traces.specs.declared.line.Line.TheVariants as Form
 use Rattle.replay.specs.Log.{note_text, happenings_text}
@@ -173,9 +173,9 @@ line_meant texts names bytes (Form.Ipp body) old actions text new a b plain is (
     let served = action_of actions (Served_body old.moment body.items serves.answer serves.happenings) a b serves.does runs (some_line serves.answer serves.line serves.replies) in
     let meant = body_meant texts names body.items served.0 old.moment serves.answer serves.line a.core serves.happenings b.core served.1 serves.replies served.2 in
     record { line = Form.Ipp body; is = is; part = meant.part; answer = meant.answer; means = (served.0, served.1, meant.means); does = meant.does; moment = ap (λ (s : Standing). s.moment) same; printed = serves.printed ∙ meant.printed }
-line_meant texts names bytes (Form.Device device report) old actions text new a b plain (said, cut, is) (calls, same) runs =
+line_meant texts names bytes (Form.Device device report) old actions text new a b plain (operands, cut, is) (calls, same) runs =
     let did = action_of actions (Reported old.moment device (report_of report) calls.happenings) a b calls.does runs calls.unrefused in
-    unanswered texts names bytes (Is.Report device did.0) (Form.Device device did.0) did.2 old new a.core calls.happenings b.core text (said, cut, names_same names said device report did.0 did.1 is) calls.printed did.3 (λ part one. (did.2, one, refl)) (ap (λ (s : Standing). s.moment) same)
+    unanswered texts names bytes (Is.Report device did.0) (Form.Device device did.0) did.2 old new a.core calls.happenings b.core text (operands, cut, names_same names operands device report did.0 did.1 is) calls.printed did.3 (λ part one. (did.2, one, refl)) (ap (λ (s : Standing). s.moment) same)
 line_meant texts names bytes Form.Tick old actions text new a b plain is (calls, same) runs =
     let did = action_of actions (Ticked old.moment calls.happenings) a b calls.does runs calls.unrefused in
     unanswered texts names bytes Is.Tick Form.Tick did.0 old new a.core calls.happenings b.core text is calls.printed did.1 (λ part one. (did.0, one, refl)) (ap (λ (s : Standing). s.moment) same)
@@ -203,21 +203,21 @@ is_none names bytes s plain (inr (line, is, early)) = absurd (never (may_come li
 -- ---- all lines
 
 -- one run of the core from a state on, and the text printed for the run
-record AreMeant (texts : Bool) (names : List (List ℕ)) (number : ℕ) (lines : List (List ℕ)) (moment : ℕ) (old : State) (said : ProgramOutput) : Type 0 where
+record AreMeant (texts : Bool) (names : List (List ℕ)) (number : ℕ) (lines : List (List ℕ)) (moment : ℕ) (old : State) (output : ProgramOutput) : Type 0 where
   part : Part
   new : State
   run : Run (PrintsEach texts names) old [] part.events part.outcomes new part.observed
-  printed : LinesMean names number lines moment part said
+  printed : LinesMean names number lines moment part output
 
 -- the meaning of a line in a trace without connections
 abbrev IsPlain : List (List ℕ) → List ℕ → Type 0
 IsPlain names bytes = (line : Line) → IsLine names bytes line → IsOfNoConnection line
 
-lines_meant : (texts : Bool) (names : List (List ℕ)) (number : ℕ) (lines : List (List ℕ)) (old : Standing) (actions : Trace) (said : ProgramOutput) (a b : Ledger) → SpeaksOfNoConnection names lines → LinesPlay texts names number lines old actions said → Allows actions a b → AreMeant texts names number lines old.moment a.core said
-lines_meant texts names number [] old actions said a b plain (none, ends) runs = record { part = nothing; new = a.core; run = (refl, refl); printed = (refl, ends) }
-lines_meant texts names number (bytes ∷ more) old actions said a b plain (inl (bad, none, refused)) runs =
+lines_meant : (texts : Bool) (names : List (List ℕ)) (number : ℕ) (lines : List (List ℕ)) (old : Standing) (actions : Trace) (output : ProgramOutput) (a b : Ledger) → SpeaksOfNoConnection names lines → LinesPlay texts names number lines old actions output → Allows actions a b → AreMeant texts names number lines old.moment a.core output
+lines_meant texts names number [] old actions output a b plain (none, ends) runs = record { part = nothing; new = a.core; run = (refl, refl); printed = (refl, ends) }
+lines_meant texts names number (bytes ∷ more) old actions output a b plain (inl (bad, none, refused)) runs =
     record { part = nothing; new = a.core; run = (refl, refl); printed = inl (is_none names bytes old (All-head (IsPlain names) bytes more plain) bad, refl, refused) }
-lines_meant texts names number (bytes ∷ more) old actions said a b plain (inr (line, here, text, new, there, rest, is, may, plays, later, whole, printed)) runs =
+lines_meant texts names number (bytes ∷ more) old actions output a b plain (inr (line, here, text, new, there, rest, is, may, plays, later, whole, printed)) runs =
     let parts = seen_apart here there a b (subst (λ d. Allows d a b) whole runs) in
     let meant = line_meant texts names bytes line old here text new a parts.0 (All-head (IsPlain names) bytes more plain line is) is plays parts.1 in
     let run = lines_meant texts names (suc number) more new there rest parts.0 b (All-tail (IsPlain names) bytes more plain) later parts.2 in
@@ -235,11 +235,11 @@ lines_meant texts names number (bytes ∷ more) old actions said a b plain (inr 
         meant.means,
         subst (λ m. LinesMean names (suc number) more m run.part rest) meant.moment run.printed,
         refl,
-        printed ∙ ap (λ t. said_after t rest) meant.printed,
+        printed ∙ ap (λ t. output_after t rest) meant.printed,
       );
     }
 
-pub lines_run : (texts : Bool) (settings : ServerSettings) (number : ℕ) (lines : List (List ℕ)) (said : ProgramOutput) → SpeaksOfNoConnection (device_names settings) lines → LinesGive texts settings number lines said → IsOneRun texts settings number lines said
-lines_run texts settings number lines said plain gives =
-    let run = lines_meant texts (device_names settings) number lines start gives.actions said (opening_ledger (opening settings 1)) gives.ledger plain gives.plays gives.runs in
+pub lines_run : (texts : Bool) (settings : ServerSettings) (number : ℕ) (lines : List (List ℕ)) (output : ProgramOutput) → SpeaksOfNoConnection (device_names settings) lines → LinesGive texts settings number lines output → IsOneRun texts settings number lines output
+lines_run texts settings number lines output plain gives =
+    let run = lines_meant texts (device_names settings) number lines start gives.actions output (opening_ledger (opening settings 1)) gives.ledger plain gives.plays gives.runs in
     record { part = run.part; new = run.new; run = run.run; printed = run.printed }

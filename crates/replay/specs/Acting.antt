@@ -9,7 +9,7 @@ use Rattle.server.specs.Turn.{Trace, Turned}
 use Rattle.server.specs.State.{EngineState}
 use Rattle.server.specs.Refinement.{IsAt}
 use Rattle.program.specs.declared.exit_status.ExitStatus.TheVariants as Ends
-use Rattle.program.specs.Said.{ProgramOutput, said_after}
+use Rattle.program.specs.Output.{ProgramOutput, output_after}
 use Rattle.replay.specs.declared.play.Play.{Play}
 use Rattle.traces.specs.declared.line.Line.{Line}
 use Rattle.traces.specs.declared.line_fault.LineFault.{LineFault}
@@ -88,11 +88,11 @@ Acts old bytes output (Some fault) new output' = IsBad old.log.names bytes (stan
 -- the text and the status of lines, of which the first has this number, for each trace at which the server was before, with the actions of the lines
 pub record PlaysAll (old : Play) (number : ℕ) (lines : List (List ℕ)) (before : List ℕ) (all : ProgramOutput) : Type 0 where
   pub actions : Trace
-  pub said : ProgramOutput
+  pub output : ProgramOutput
   pub new : EngineState
-  pub plays : LinesPlay old.log.texts old.log.names number lines (standing old) actions said
+  pub plays : LinesPlay old.log.texts old.log.names number lines (standing old) actions output
   pub moves : Moves old.engine actions new
-  pub printed : all ≡ said_after before said
+  pub printed : all ≡ output_after before output
 
 -- the text of a prefix of the lines, where memory was refused
 pub record PlaysFirst (old : Play) (number : ℕ) (lines : List (List ℕ)) (before left : List ℕ) : Type 0 where

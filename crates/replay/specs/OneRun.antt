@@ -18,7 +18,7 @@ use Rattle.ipp_operations.specs.declared.parsed_request.ParsedRequest.TheVariant
 use Rattle.ipp_operations.specs.ParsedRequest.{Asks}
 use Rattle.ipp_operations.specs.Reply.{IsReply, refusal_bytes}
 use Rattle.program.specs.declared.exit_status.ExitStatus.TheVariants as Ends
-use Rattle.program.specs.Said.{ProgramOutput, refused_as, said_after}
+use Rattle.program.specs.Output.{ProgramOutput, refused_as, output_after}
 use Rattle.traces.specs.declared.line.Line.{Line}
 use Rattle.traces.specs.declared.line.Line.TheVariants as Form
 use Rattle.traces.specs.TraceLine.{IsLine}
@@ -106,16 +106,16 @@ IsNoLine names bytes = (line : Line) → ¬ (IsLine names bytes line)
 
 -- The part of a run for the lines, in order, up to the first bytes that aren't a line; and the text: for each line the text of its reply, and then that of the notes of its event.
 abbrev pub LinesMean : List (List ℕ) → ℕ → List (List ℕ) → ℕ → Part → ProgramOutput → Type 0
-LinesMean names number [] moment all said = (all ≡ nothing) × (said ≡ record { text = []; status = Ends.Done })
-LinesMean names number (bytes ∷ more) moment all said =
-    (IsNoLine names bytes × (all ≡ nothing) × (said ≡ refused_as (codes "line " ++ decimal number)))
+LinesMean names number [] moment all output = (all ≡ nothing) × (output ≡ record { text = []; status = Ends.Done })
+LinesMean names number (bytes ∷ more) moment all output =
+    (IsNoLine names bytes × (all ≡ nothing) × (output ≡ refused_as (codes "line " ++ decimal number)))
     ⊎ ((line : Line) × (part : Part) × (text : List ℕ) × (later : Part) × (rest : ProgramOutput)
     × IsLine names bytes line × Means line moment part text × LinesMean names (suc number) more (moment_after line moment) later rest
-    × (all ≡ then_part part later) × (said ≡ said_after (text ++ concat part.observed) rest))
+    × (all ≡ then_part part later) × (output ≡ output_after (text ++ concat part.observed) rest))
 
 -- one run of the core over the events of the lines, from the start of a server with these settings, and its text
-pub record IsOneRun (texts : Bool) (settings : ServerSettings) (number : ℕ) (lines : List (List ℕ)) (said : ProgramOutput) : Type 0 where
+pub record IsOneRun (texts : Bool) (settings : ServerSettings) (number : ℕ) (lines : List (List ℕ)) (output : ProgramOutput) : Type 0 where
   pub part : Part
   pub new : State
   pub run : Run (PrintsEach texts (device_names settings)) (opening settings 1) [] part.events part.outcomes new part.observed
-  pub printed : LinesMean (device_names settings) number lines 0 part said
+  pub printed : LinesMean (device_names settings) number lines 0 part output

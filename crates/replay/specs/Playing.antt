@@ -7,7 +7,7 @@ use Rattle.server.specs.Polls.{Happening, Leads}
 use Rattle.server.specs.Turn.{Action, Turned, Served_body, Reported, Ticked, Trace, Outcome, Replied, BadRequest, OutOfMemory, has_refusal}
 use Rattle.wires.specs.declared.wire.Door.{Door}
 use Rattle.program.specs.declared.exit_status.ExitStatus.TheVariants as Ends
-use Rattle.program.specs.Said.{ProgramOutput, refused_as, said_after}
+use Rattle.program.specs.Output.{ProgramOutput, refused_as, output_after}
 use Rattle.traces.specs.declared.peers.Connection.{Connection}
 use Rattle.traces.specs.declared.line.Line.{Line}
 use Rattle.traces.specs.declared.line.Line.TheVariants as Form
@@ -102,9 +102,9 @@ IsBad names bytes s = ((line : Line) → IsLine names bytes line → ⊥) ⊎ ((
 
 -- the actions and the text of the lines, in order, of which the first has this number, up to a bad one
 abbrev pub LinesPlay : Bool → List (List ℕ) → ℕ → List (List ℕ) → Standing → Trace → ProgramOutput → Type 0
-LinesPlay texts names number [] old actions said = (actions ≡ []) × (said ≡ record { text = []; status = Ends.Done })
-LinesPlay texts names number (bytes ∷ more) old actions said =
-    (IsBad names bytes old × (actions ≡ []) × (said ≡ refused_as (codes "line " ++ decimal number)))
+LinesPlay texts names number [] old actions output = (actions ≡ []) × (output ≡ record { text = []; status = Ends.Done })
+LinesPlay texts names number (bytes ∷ more) old actions output =
+    (IsBad names bytes old × (actions ≡ []) × (output ≡ refused_as (codes "line " ++ decimal number)))
     ⊎ ((line : Line) × (here : Trace) × (text : List ℕ) × (new : Standing) × (there : Trace) × (rest : ProgramOutput)
     × IsLine names bytes line × (may_come line old ≡ true) × Plays texts names line old here text new × LinesPlay texts names (suc number) more new there rest
-    × (actions ≡ here ++ there) × (said ≡ said_after text rest))
+    × (actions ≡ here ++ there) × (output ≡ output_after text rest))

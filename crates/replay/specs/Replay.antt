@@ -12,7 +12,7 @@ use Rattle.server.specs.Turn.{Trace, Allows}
 use Rattle.program.specs.declared.exit_status.ExitStatus.{ExitStatus}
 use Rattle.program.specs.declared.exit_status.ExitStatus.TheVariants as Ends
 use Rattle.program.specs.Input.{IsWhole, GaveMore}
-use Rattle.program.specs.Said.{ProgramOutput, refused_as}
+use Rattle.program.specs.Output.{ProgramOutput, refused_as}
 use Rattle.program.specs.RefusedSettings.{settings_refused}
 use Rattle.traces.specs.Lines.{lines_of, IsSplit, HasNoStop}
 use Rattle.replay.specs.Playing.{Standing, LinesPlay}
@@ -24,27 +24,27 @@ abbrev pub start : Standing
 start = record { moment = 0; connections = []; peers = [] }
 
 -- The text and the status of lines, of which the first has this number: those of the actions that a server with these settings takes for them from its start on.
-pub record LinesGive (texts : Bool) (settings : ServerSettings) (number : ℕ) (lines : List (List ℕ)) (said : ProgramOutput) : Type 0 where
+pub record LinesGive (texts : Bool) (settings : ServerSettings) (number : ℕ) (lines : List (List ℕ)) (output : ProgramOutput) : Type 0 where
   pub actions : Trace
   pub ledger : Ledger
-  pub plays : LinesPlay texts (device_names settings) number lines start actions said
+  pub plays : LinesPlay texts (device_names settings) number lines start actions output
   pub runs : Allows actions (opening_ledger (opening settings 1)) ledger
 
 -- ---- a trace
 
 -- the text and the status of settings, with the lines after the first `count` lines
 abbrev pub SettingsGive : Bool → List ℕ → List ℕ → ℕ → ProgramOutput → Type 0
-SettingsGive texts settings rest count said =
-    (¬ (IsUtf8 settings) × (said ≡ settings_refused not_toml))
+SettingsGive texts settings rest count output =
+    (¬ (IsUtf8 settings) × (output ≡ settings_refused not_toml))
     ⊎ (IsUtf8 settings × MatchResult (settings_of settings)
-    (λ read. LinesGive texts read (suc count) (lines_of rest) said)
-    (λ fault. said ≡ settings_refused fault))
+    (λ read. LinesGive texts read (suc count) (lines_of rest) output)
+    (λ fault. output ≡ settings_refused fault))
 
 -- the text and the status of a trace; without the line that ends the settings it is refused
 abbrev pub TraceGives : Bool → List ℕ → ProgramOutput → Type 0
-TraceGives texts trace said =
-    (HasNoStop trace × (said ≡ settings_refused not_toml))
-    ⊎ ((settings : List ℕ) × (rest : List ℕ) × (count : ℕ) × IsSplit trace settings rest count × SettingsGive texts settings rest count said)
+TraceGives texts trace output =
+    (HasNoStop trace × (output ≡ settings_refused not_toml))
+    ⊎ ((settings : List ℕ) × (rest : List ℕ) × (count : ℕ) × IsSplit trace settings rest count × SettingsGive texts settings rest count output)
 
 -- the text where memory was refused: that of a prefix of the lines
 pub record FirstGive (texts : Bool) (settings rest : List ℕ) (count : ℕ) (left : List ℕ) : Type 0 where
@@ -67,19 +67,19 @@ TraceLeaves texts trace left =
 
 -- the text and the status of an input, which is a whole trace or has too many bytes
 abbrev pub InputGives : Bool → Option (List ℕ) → Option (List ℕ) → ProgramOutput → Type 0
-InputGives texts before after said =
-    ((trace : List ℕ) × IsWhole INPUT_BYTES before after trace × TraceGives texts trace said)
-    ⊎ (GaveMore INPUT_BYTES before after × (said ≡ refused_as (codes "size")))
+InputGives texts before after output =
+    ((trace : List ℕ) × IsWhole INPUT_BYTES before after trace × TraceGives texts trace output)
+    ⊎ (GaveMore INPUT_BYTES before after × (output ≡ refused_as (codes "size")))
 
 -- the text that is left to write if the program fails: none, that of a prefix of the lines, or all
 abbrev pub InputLeaves : Bool → Option (List ℕ) → Option (List ℕ) → List ℕ → Type 0
 InputLeaves texts before after left =
     (left ≡ [])
     ⊎ ((trace : List ℕ) × IsWhole INPUT_BYTES before after trace × TraceLeaves texts trace left)
-    ⊎ ((said : ProgramOutput) × InputGives texts before after said × (left ≡ said.text))
+    ⊎ ((output : ProgramOutput) × InputGives texts before after output × (left ≡ output.text))
 
 -- The text of the input was written as a whole; or memory, the reader or the writer failed, and a prefix of the text so far was written.
 abbrev pub Replays : Bool → Option (List ℕ) → Option (List ℕ) → Option (List ℕ) → Option (List ℕ) → ExitStatus → Type 0
 Replays texts before after held holds status =
-    ((said : ProgramOutput) × InputGives texts before after said × Appends held holds said.text × (status ≡ said.status))
+    ((output : ProgramOutput) × InputGives texts before after output × Appends held holds output.text × (status ≡ output.status))
     ⊎ ((status ≡ Ends.Failed) × (left : List ℕ) × (n : ℕ) × InputLeaves texts before after left × Appends held holds (take n left))

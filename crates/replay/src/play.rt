@@ -2,7 +2,7 @@
 ghost use Rattle.std.specs.Prelude.{◌≡◌, Ok, Some, IfOk, OnOk, OnErr};
 ghost use Rattle.base_types.specs.Report.{report_of};
 ghost use Rattle.settings_file.specs.Settings.{MeetsLimits};
-ghost use Rattle.server.specs.Refinement.{said_of};
+ghost use Rattle.server.specs.Refinement.{outcome_of};
 ghost use Rattle.server.specs.Turn.{Reported, Ticked};
 ghost use Rattle.replay.specs.Playing.{Calls, Serves, Turns, Plays, IsReplyLine, opened, on_peer};
 ghost use Rattle.traces.specs.Connections.{sending, ending};
@@ -32,7 +32,7 @@ pub(crate) struct Play {
 
 /// The line of a reply. The only error is out of memory.
 fn reply_line(alloc: Global, served: &Served) -> Result<Vec<u8>, AllocError>
-    ensures { IfOk result (λ line. IsReplyLine (said_of (Ok served.now)) line.items) }
+    ensures { IfOk result (λ line. IsReplyLine (outcome_of (Ok served.now)) line.items) }
 {
     match served {
         Served::Reply(bytes) => line_of(alloc, bytes),

@@ -8,7 +8,7 @@ ghost use Rattle.settings_file.specs.Settings.{ServerSettings};
 ghost use Rattle.settings_file.specs.Fault.{Fault, fault_of};
 ghost use Rattle.settings_file.specs.Reading.{settings_of, IsFaultOf};
 ghost use Rattle.program.specs.declared.exit_status.ExitStatus.TheVariants as Ends;
-ghost use Rattle.program.specs.Said.{refused_as};
+ghost use Rattle.program.specs.Output.{refused_as};
 ghost use Rattle.program.specs.RefusedSettings.{settings_refused};
 ghost use Rattle.traces.specs.Lines.{lines_of};
 ghost use Rattle.replay.specs.Acting.{IsReady, IsStart, PlaysAll, PlaysFirst};

@@ -48,7 +48,7 @@ pub fits_broken : (e : Entry) (c : ConnectionState) → RepresentsConnection e c
 fits_broken e c f = record { id = f.id; peer = broken_peer e.read e.progress e.broken c.peer f.peer; ended = f.ended; draining = f.draining; broken = refl; due = f.due }
 
 given_peer : (read : List ℕ) (progress : PeerRecord) (off : Bool) (p : Peer) → FitsPeer read progress off p → FitsPeer read (unnamed progress) true (has_no_name p)
-given_peer read progress off (of.Ipp t) f = record { said = f.said; body = f.body; unreported = f.unreported; all_reported = f.all_reported; is = ap unnamed f.is; reaches = f.reaches; body_read = f.body_read }
+given_peer read progress off (of.Ipp t) f = record { parsed = f.parsed; body = f.body; unreported = f.unreported; all_reported = f.all_reported; is = ap unnamed f.is; reaches = f.reaches; body_read = f.body_read }
 given_peer read progress off (of.Lpd t) f = record { items = f.items; is = ap unnamed f.is; reaches = f.reaches }
 given_peer read progress off (of.Device t) f = record { reports = f.reports; is = ap unnamed f.is; linked = λ no. let never : true ≡ false = no in cc }
 

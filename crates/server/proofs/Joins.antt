@@ -105,7 +105,7 @@ module _ {S : Type 0} {moves : S → Happening → S → Type 0} where
 
   -- a body was parsed, and is acted on
   pub body_read : (body : List ℕ) (asked : ParsedRequest) {moment : ℕ} {answer : Answer} {u v : S} {a b : EngineState} → Asks body asked → RefinesAnswering moves (BodyAsks moment asked) u a v b answer → RefinesAnswering moves (BodyComes moment body) u a v b answer
-  body_read body asked {moment} {answer} {u} {v} {a} {b} said p = answered_found moves (BodyAsks moment asked) (BodyComes moment body) u v a b answer (λ served l hs l' it. inl (asked, said, it)) p
+  body_read body asked {moment} {answer} {u} {v} {a} {b} parsed p = answered_found moves (BodyAsks moment asked) (BodyComes moment body) u v a b answer (λ served l hs l' it. inl (asked, parsed, it)) p
 
 module _ {S : Type 0} {polled : S → Poll → S → Type 0} {notified : S → Note → S → Type 0} where
   -- a tick comes that is due

@@ -200,7 +200,7 @@ pub at_most_one : (action : Action) (old new : Ledger) → DoesAction action old
 at_most_one (Turned moment hs) old new it = tt
 at_most_one (Served_body moment body answer hs) old new (served, is, it) =
     λ some. let known = not_refused (has_refusal hs) served answer is some in body_served moment body served answer old hs new known.0 known.1 it
-at_most_one (Reported moment device said hs) old new (report, is, (outcome, it)) =
+at_most_one (Reported moment device parsed hs) old new (report, is, (outcome, it)) =
     λ none. let one = light_event moment (Is.Report device report) outcome old hs new tt none (happened moment (Is.Report device report) outcome old hs new it) in (report, is, one.0, one.1)
 at_most_one (Ticked moment hs) old new it = λ none. let tick = ticked moment old hs new it in light_event moment Is.Tick tick.0 old hs new tt none tick.1
 
@@ -218,7 +218,7 @@ event_seen moment event reply old hs new one = record { outcome = one.outcome; n
 one_seen : (action : Action) (old new : State) → IsAtMostOne action old new → IsAtMostOne (seen_of action) old new
 one_seen (Turned moment hs) old new one = tt
 one_seen (Served_body moment body answer hs) old new one = λ some. let it = one some in (it.0, it.1, served_seen moment it.0 answer old hs (seen hs) new (seen_again hs) it.2)
-one_seen (Reported moment device said hs) old new one = λ none. let it = one (sym (seen_refusal hs) ∙ none) in (it.0, it.1, it.2, event_seen moment (Is.Report device it.0) it.2 old hs new it.3)
+one_seen (Reported moment device parsed hs) old new one = λ none. let it = one (sym (seen_refusal hs) ∙ none) in (it.0, it.1, it.2, event_seen moment (Is.Report device it.0) it.2 old hs new it.3)
 one_seen (Ticked moment hs) old new one = λ none. let it = one (sym (seen_refusal hs) ∙ none) in (it.0, event_seen moment Is.Tick it.0 old hs new it.1)
 
 -- the law of an action, for a trace of one action

@@ -285,8 +285,8 @@ module _ (moment : ℕ) (P : Rel) (k : Holds moment P) where
   answers_in : (key id : ℕ) (who : Client) (event : Event) → Within P (Answering.IsAnswered moment key id who event)
   answers_in key id who event l hs l' (outcome, it) = answered_in event (Answering.Answers key id who (is_query event)) (calm_client key id who (is_query event)) (dropped_notified key id who (is_query event)) outcome l hs l' it
 
-  notifies_in : (device : ℕ) (said : ReportRecord) → Within P (Hello.ReportComes moment device said)
-  notifies_in device said l hs l' (report, is, it) = reported_in device report l hs l' it
+  notifies_in : (device : ℕ) (parsed : ReportRecord) → Within P (Hello.ReportComes moment device parsed)
+  notifies_in device parsed l hs l' (report, is, it) = reported_in device report l hs l' it
 
   gives_way_at_in : (key : ℕ) (o : Option Entry) → Within P (Hello.IsSupersededAt key o)
   gives_way_at_in key None = nothing_in
@@ -418,12 +418,12 @@ module _ (moment : ℕ) (P : Rel) (k : Holds moment P) where
   serves_body_in : (body : List ℕ) (answer : Between.Outcome) → Within P (Between.Serves moment body answer)
   serves_body_in body answer l hs l' (served, is, it) = body_in body served l hs l' it
 
-  reports_in : (device : ℕ) (said : ReportRecord) → Within P (Between.Reports moment device said)
-  reports_in device said = notifies_in device said
+  reports_in : (device : ℕ) (parsed : ReportRecord) → Within P (Between.Reports moment device parsed)
+  reports_in device parsed = notifies_in device parsed
 
 -- what holds for all parts of an action holds for the action
 pub action_in : (P : Rel) (action : Action) → Holds (moment_of action) P → (l l' : Ledger) → DoesAction action l l' → P l (happenings_of action) l'
 action_in P (Turned moment hs) k l l' it = turn_in moment P k l hs l' it
 action_in P (Served_body moment body answer hs) k l l' it = serves_body_in moment P k body answer l hs l' it
-action_in P (Reported moment device said hs) k l l' it = reports_in moment P k device said l hs l' it
+action_in P (Reported moment device parsed hs) k l l' it = reports_in moment P k device parsed l hs l' it
 action_in P (Ticked moment hs) k l l' it = ticks_in moment P k l hs l' it

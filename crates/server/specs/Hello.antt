@@ -15,7 +15,7 @@ use Rattle.server.specs.Closing.{IsGone}
 
 -- a report of a device comes
 abbrev pub ReportComes : ℕ → ℕ → ReportRecord → Rel
-ReportComes moment device said l hs l' = (report : Report) × (report_of report ≡ said) × Unanswered moment (Is.Report device report) l hs l'
+ReportComes moment device parsed l hs l' = (report : Report) × (report_of report ≡ parsed) × Unanswered moment (Is.Report device report) l hs l'
 
 -- a connection is open, this device gave its name on it, and `ended` is whether the input of the connection has ended
 abbrev pub IsDeviceAs : Bool → ℕ → Option Entry → Type 0

@@ -55,13 +55,13 @@ Collects before note after = after ≡ before ++ note ∷ []
 abbrev pub moment_of : Action → ℕ
 moment_of (Turned moment hs) = moment
 moment_of (Served_body moment body answer hs) = moment
-moment_of (Reported moment device said hs) = moment
+moment_of (Reported moment device parsed hs) = moment
 moment_of (Ticked moment hs) = moment
 
 abbrev pub happenings_of : Action → List Happening
 happenings_of (Turned moment hs) = hs
 happenings_of (Served_body moment body answer hs) = hs
-happenings_of (Reported moment device said hs) = hs
+happenings_of (Reported moment device parsed hs) = hs
 happenings_of (Ticked moment hs) = hs
 
 -- the happenings of all actions of a trace, in order
@@ -120,8 +120,8 @@ IsServed moment (asks.Event request event) answer old hs new =
 abbrev pub IsAtMostOne : Action → State → State → Type 0
 IsAtMostOne (Turned moment hs) old new = Unit {0}
 IsAtMostOne (Served_body moment body answer hs) old new = answer ≢ OutOfMemory → (asked : ParsedRequest) × Asks body asked × IsServed moment asked answer old hs new
-IsAtMostOne (Reported moment device said hs) old new =
-    has_refusal hs ≡ false → (report : Report) × (report_of report ≡ said) × (reply : Effects) × IsOneEvent moment (Is.Report device report) reply old hs new
+IsAtMostOne (Reported moment device parsed hs) old new =
+    has_refusal hs ≡ false → (report : Report) × (report_of report ≡ parsed) × (reply : Effects) × IsOneEvent moment (Is.Report device report) reply old hs new
 IsAtMostOne (Ticked moment hs) old new = has_refusal hs ≡ false → (reply : Effects) × IsOneEvent moment Is.Tick reply old hs new
 
 -- ---- connections that were closed

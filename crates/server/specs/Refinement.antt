@@ -145,14 +145,14 @@ pub record RefinesBody {S : Type 0} (moves : S → Happening → S → Type 0) (
   pub reaches : (opening : State) (trace : Trace) → IsAt opening trace old → IsAt opening (trace ++ Served_body moment body answer happenings ∷ []) new
 
 -- the outcome of a served body, by the result of the function
-abbrev pub said_of : Result Served AllocError → Outcome
-said_of (Ok (as_served.Reply bytes)) = Replied bytes.items
-said_of (Ok as_served.BadRequest) = BadRequest
-said_of (Err error) = OutOfMemory
+abbrev pub outcome_of : Result Served AllocError → Outcome
+outcome_of (Ok (as_served.Reply bytes)) = Replied bytes.items
+outcome_of (Ok as_served.BadRequest) = BadRequest
+outcome_of (Err error) = OutOfMemory
 
 -- as `RefinesAnswering`, for an observer without a wire and for the result of a function
 abbrev pub AnswersBody : {N : Type 0} → (N → Note → N → Type 0) → (Outcome → Rel) → N → EngineState → N → EngineState → Result Served AllocError → Type 0
-AnswersBody notified R observer old observer' new result = RefinesAnswering (alone notified) R observer old observer' new (said_of result)
+AnswersBody notified R observer old observer' new result = RefinesAnswering (alone notified) R observer old observer' new (outcome_of result)
 
 -- the bytes of a response; if memory for the bytes is refused, the observer is notified
 abbrev pub AnswerAs : {N : Type 0} → (N → Note → N → Type 0) → ℕ → Response → N → Result (Vec ℕ Global) AllocError → N → Type 0
@@ -167,7 +167,7 @@ BytesAs notified request None observer (Err error) observer' = notified observer
 
 -- the reply of a status alone; if memory for the reply is refused, the observer is notified
 abbrev pub RefusalAs : {N : Type 0} → (N → Note → N → Type 0) → Status → ℕ → N → Result Served AllocError → N → Type 0
-RefusalAs notified status request observer (Ok served) observer' = (said_of (Ok served) ≡ Replied (refusal_bytes status request)) × (observer' ≡ observer)
+RefusalAs notified status request observer (Ok served) observer' = (outcome_of (Ok served) ≡ Replied (refusal_bytes status request)) × (observer' ≡ observer)
 RefusalAs notified status request observer (Err error) observer' = notified observer (Refused At.Reply None) observer'
 
 abbrev pub bytes_in : Result (Vec ℕ Global) AllocError → List ℕ

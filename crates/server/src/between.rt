@@ -3,7 +3,7 @@ ghost use Rattle.base_types.specs.Report.{report_of};
 ghost use Rattle.server.specs.Polls.{alone};
 ghost use Rattle.server.specs.Happening.{ReportComes};
 ghost use Rattle.server.specs.Turn.{Ticked, Reported, BodyAsks, BodyBrings, BodyComes};
-ghost use Rattle.server.specs.Refinement.{Reports, AnswersBody, RefinesCall, RefinesBody, AnswerAs, BytesAs, RefusalAs, said_of};
+ghost use Rattle.server.specs.Refinement.{Reports, AnswersBody, RefinesCall, RefinesBody, AnswerAs, BytesAs, RefusalAs, outcome_of};
 
 use crate::engine::Engine;
 use crate::handling::{EventResult, effects_of};
@@ -26,7 +26,7 @@ impl<P: Planner + Drop> Engine<P> {
         notes: &mut N,
         moment: Moment,
     ) -> Result<Served, AllocError>
-        ensures { RefinesBody (alone N.notified) moment body.now notes.old self.old notes.new self.new (said_of result) }
+        ensures { RefinesBody (alone N.notified) moment body.now notes.old self.old notes.new self.new (outcome_of result) }
     {
         self.serve_now(moment, body, notes)
     }

@@ -37,9 +37,9 @@ impl Hint {
         if !text.is_empty() && text.bytes().all(|byte| byte.is_ascii_digit()) {
             return Hint::Quoted;
         }
-        for (said, written) in MEDIA {
-            if text.eq_ignore_ascii_case(said) {
-                return Hint::Medium(said, written);
+        for (content, written) in MEDIA {
+            if text.eq_ignore_ascii_case(content) {
+                return Hint::Medium(content, written);
             }
         }
         Hint::None
@@ -50,7 +50,7 @@ impl fmt::Display for Hint {
     fn fmt<W: fmt::Write>(&self, f: &mut fmt::Formatter<W>) -> fmt::Result {
         match self {
             Hint::Quoted => f.write_str(", without quotation marks"),
-            Hint::Medium(said, written) => write!(f, "; {said} is {written:?}"),
+            Hint::Medium(content, written) => write!(f, "; {content} is {written:?}"),
             Hint::None => Ok(()),
         }
     }

@@ -1,6 +1,6 @@
 //! The place of a fault in a text.
 use crate::last_table::LastTable;
-use crate::statement::{Said, Statement, Statements};
+use crate::statement::{Content, Statement, Statements};
 use std::alloc::Global;
 
 /// The places in a text of one table and one of its keys, as far as they are found.
@@ -54,19 +54,19 @@ impl Position {
         key: &str,
         statement: &Statement<'_>,
     ) -> Option<Similar> {
-        match &statement.said {
-            Said::Header(name) => {
+        match &statement.content {
+            Content::Header(name) => {
                 self.enter(name.as_deref().unwrap_or(""));
                 None
             }
-            Said::Entry {
+            Content::Entry {
                 key: Some(written),
                 ..
             } if self.table == Some(table) && is_meant(written, key) => Some(Similar {
                 line: statement.line,
                 key: String::from_str(alloc, written).ok()?,
             }),
-            Said::Entry { .. } => None,
+            Content::Entry { .. } => None,
         }
     }
 }
@@ -104,8 +104,8 @@ impl<'a> Place<'a> {
     /// Takes a statement into account.
     fn add(&mut self, at: &mut Position, table: LastTable, key: &str, statement: &Statement<'a>) {
         let line = statement.line;
-        match &statement.said {
-            Said::Header(name) => {
+        match &statement.content {
+            Content::Header(name) => {
                 let name = name.as_deref().unwrap_or("");
                 at.enter(name);
                 if at.table == Some(table) {
@@ -114,14 +114,14 @@ impl<'a> Place<'a> {
                     self.has_line(line);
                 }
             }
-            Said::Entry {
+            Content::Entry {
                 key: written,
                 value,
             } if at.table == Some(table) => {
                 let written = written.as_deref().unwrap_or("");
                 self.add_entry(line, written == key, written == "name", value);
             }
-            Said::Entry { .. } => {}
+            Content::Entry { .. } => {}
         }
     }
 }

@@ -5,7 +5,7 @@ use toml_parser::{dotted_key, quoted, starts_string};
 
 /// The content of a statement.
 #[derive(Drop)]
-pub(crate) enum Said<'a> {
+pub(crate) enum Content<'a> {
     /// The header of the table of a name; `None` if the name has dots.
     Header(Option<String>),
     /// A key (`None` if it has dots), and its value as the text writes it.
@@ -16,7 +16,7 @@ pub(crate) enum Said<'a> {
 #[derive(Drop)]
 pub(crate) struct Statement<'a> {
     pub(crate) line: usize,
-    pub(crate) said: Said<'a>,
+    pub(crate) content: Content<'a>,
 }
 
 /// A text, with the rest that isn't read.
@@ -42,12 +42,12 @@ impl<'a> Statements<'a> {
     pub(crate) fn next(&mut self) -> Option<Statement<'a>> {
         let start = skip_blank(self.rest, true);
         let line = line_at(self.text, start);
-        let (said, rest) = match start.strip_prefix("[") {
+        let (content, rest) = match start.strip_prefix("[") {
             Some(inner) => header(self.alloc, inner)?,
             None => entry(self.alloc, start)?,
         };
         self.rest = rest;
-        Some(Statement { line, said })
+        Some(Statement { line, content })
     }
 }
 
@@ -68,23 +68,23 @@ fn simple_key(key: toml_parser::Key) -> Option<String> {
 }
 
 /// Reads a header after its first bracket. Returns it and the rest after it.
-fn header<'a>(alloc: Global, inner: &'a str) -> Option<(Said<'a>, &'a str)> {
+fn header<'a>(alloc: Global, inner: &'a str) -> Option<(Content<'a>, &'a str)> {
     let inner = inner.strip_prefix("[").unwrap_or(inner);
     let (key, after) = dotted_key(alloc, skip_ws(inner)).ok()?;
     let after = after.strip_prefix("]")?;
     let after = after.strip_prefix("]").unwrap_or(after);
-    Some((Said::Header(simple_key(key)), after))
+    Some((Content::Header(simple_key(key)), after))
 }
 
 /// Reads an entry. Returns it and the rest after it.
-fn entry<'a>(alloc: Global, start: &'a str) -> Option<(Said<'a>, &'a str)> {
+fn entry<'a>(alloc: Global, start: &'a str) -> Option<(Content<'a>, &'a str)> {
     let (key, after) = dotted_key(alloc, start).ok()?;
     let value = skip_ws(after.strip_prefix("=")?);
     let rest = after_value(alloc, value)?;
     let count = value.len().saturating_sub(rest.len());
     let value = value.get(..count)?;
     Some((
-        Said::Entry {
+        Content::Entry {
             key: simple_key(key),
             value,
         },

@@ -77,8 +77,8 @@ pub(crate) fn read_base(
 
 /// The version in the second line of a file that goes on.
 fn version_of(line: &[u8]) -> Option<&[u8]> {
-    let said = line.strip_prefix(STARTED)?;
-    let (_, version) = cut_at(said, b' ')?;
+    let operands = line.strip_prefix(STARTED)?;
+    let (_, version) = cut_at(operands, b' ')?;
     Some(version)
 }
 

@@ -9,7 +9,7 @@ impl Directory<'_> {
     /// Reports that files can't be removed. The next start tries again.
     fn say_left(&self, number: u32, error: io::Error) {
         let (path, error) = (self.path, SystemError(error));
-        let _said = eprintln!(self.rt;
+        let _printed = eprintln!(self.rt;
             "printd: cannot remove file {number} of {path}: {error}; the next start tries again"
         );
     }

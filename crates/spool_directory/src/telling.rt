@@ -9,7 +9,7 @@ impl Directory<'_> {
     pub(crate) fn tell_waiting(&self, engine: &JournaledEngine) {
         let waiting = engine.unfinished_jobs();
         if waiting > 0 {
-            let _said = eprintln!(self.rt; "printd: jobs that wait: {waiting}");
+            let _printed = eprintln!(self.rt; "printd: jobs that wait: {waiting}");
         }
     }
 
@@ -17,7 +17,7 @@ impl Directory<'_> {
     pub(crate) fn tell_in_hand(&self, jobs: &[SavedJob]) {
         for job in jobs {
             let (id, owner) = (job.id.number(), Quoted(job.owner.as_bytes()));
-            let _said = eprintln!(self.rt;
+            let _printed = eprintln!(self.rt;
                 "printd: job {id} of {owner} was in a device's hand, and is aborted"
             );
         }
@@ -27,7 +27,7 @@ impl Directory<'_> {
     pub(crate) fn tell_unpaused(&self, names: &[Text]) {
         for name in names {
             let name = Quoted(name.as_bytes());
-            let _said = eprintln!(self.rt;
+            let _printed = eprintln!(self.rt;
                 "printd: printer {name} was paused and is not: the settings name no operator"
             );
         }
@@ -40,7 +40,7 @@ impl Directory<'_> {
                 resubmitted.job.id.number(),
                 Quoted(resubmitted.job.owner.as_bytes()),
             );
-            let _said = match resubmitted.new {
+            let _printed = match resubmitted.new {
                 Some(new) => {
                     let new = new.number();
                     eprintln!(self.rt; "printd: job {id} of {owner} is now {new}")

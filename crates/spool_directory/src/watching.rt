@@ -65,7 +65,7 @@ impl JournalWriter<'_> {
     fn say_missing(&self) {
         let directory = self.opened.directory;
         let (path, name) = (directory.path, TraceName(self.tail.number));
-        let _said = eprintln!(directory.rt;
+        let _printed = eprintln!(directory.rt;
             "printd: {path}/{name} was moved or removed: after a restart the jobs are those of the files that are there then"
         );
     }

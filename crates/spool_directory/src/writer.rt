@@ -175,7 +175,7 @@ impl JournalWriter<'_> {
             _ => "it can",
         };
         let error = SystemError(error);
-        let _said = eprintln!(directory.rt;
+        let _printed = eprintln!(directory.rt;
             "printd: cannot write to {path}/{name}: {error}; nothing is answered until {until}"
         );
     }
@@ -184,7 +184,7 @@ impl JournalWriter<'_> {
     fn say_working(&self) {
         let directory = self.opened.directory;
         let (path, name) = (directory.path, TraceName(self.tail.number));
-        let _said = eprintln!(directory.rt; "printd: {path}/{name} takes lines again");
+        let _printed = eprintln!(directory.rt; "printd: {path}/{name} takes lines again");
     }
 
     /// Stores all of these lines or none. Returns whether they are stored. The first failure is reported, and the

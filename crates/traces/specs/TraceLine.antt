@@ -59,10 +59,10 @@ pub record IsInputIn (text : List ℕ) (number : ℕ) (bytes : List ℕ) : Type 
 abbrev pub IsLine : List (List ℕ) → List ℕ → Line → Type 0
 IsLine names text (At moment) = (digits : List ℕ) × (text ≡ codes "at " ++ digits) × IsMomentIn digits moment
 IsLine names text (Ipp body) = (digits : List ℕ) × (text ≡ codes "ipp " ++ digits) × IsBodyIn digits body.items
-IsLine names text (Device place report) = (said : List ℕ) × (text ≡ codes "dev " ++ said) × IsDeviceIn names said place report
+IsLine names text (Device place report) = (operands : List ℕ) × (text ≡ codes "dev " ++ operands) × IsDeviceIn names operands place report
 IsLine names text Tick = text ≡ codes "tick"
-IsLine names text (Open opening) = (said : List ℕ) × (text ≡ codes "open " ++ said) × IsOpeningIn said opening.number opening.door
-IsLine names text (In input) = (said : List ℕ) × (text ≡ codes "in " ++ said) × IsInputIn said input.number input.bytes.items
+IsLine names text (Open opening) = (operands : List ℕ) × (text ≡ codes "open " ++ operands) × IsOpeningIn operands opening.number opening.door
+IsLine names text (In input) = (operands : List ℕ) × (text ≡ codes "in " ++ operands) × IsInputIn operands input.number input.bytes.items
 IsLine names text (End number) = (digits : List ℕ) × (text ≡ codes "end " ++ digits) × IsNumberIn digits number
 
 -- the result has the property; without a result nothing has it

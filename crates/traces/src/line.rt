@@ -65,14 +65,14 @@ pub fn read_line(alloc: Global, text: &[u8], devices: &[Text]) -> Result<Option<
     if let Some(digits) = text.strip_prefix(b"ipp ") {
         return Ok(read_body(alloc, digits)?.map(|body| Line::Ipp(body)));
     }
-    if let Some(said) = text.strip_prefix(b"dev ") {
-        return read_device_line(alloc, said, devices);
+    if let Some(operands) = text.strip_prefix(b"dev ") {
+        return read_device_line(alloc, operands, devices);
     }
-    if let Some(said) = text.strip_prefix(b"open ") {
-        return Ok(read_opening(said).map(|opening| Line::Open(opening)));
+    if let Some(operands) = text.strip_prefix(b"open ") {
+        return Ok(read_opening(operands).map(|opening| Line::Open(opening)));
     }
-    if let Some(said) = text.strip_prefix(b"in ") {
-        return Ok(read_input(alloc, said)?.map(|input| Line::In(input)));
+    if let Some(operands) = text.strip_prefix(b"in ") {
+        return Ok(read_input(alloc, operands)?.map(|input| Line::In(input)));
     }
     match text.strip_prefix(b"end ") {
         Some(digits) => Ok(read_number(digits).map(|number| Line::End(number))),
@@ -88,10 +88,10 @@ fn read_number(digits: &[u8]) -> Option<u64>
 }
 
 /// Reads a number, a space and the word of a door.
-fn read_opening(said: &[u8]) -> Option<Opening>
-    ensures { Finds (λ opening. IsOpeningIn said.now opening.number opening.door) result }
+fn read_opening(operands: &[u8]) -> Option<Opening>
+    ensures { Finds (λ opening. IsOpeningIn operands.now opening.number opening.door) result }
 {
-    let Some(cut) = cut_at(said, b' ') else {
+    let Some(cut) = cut_at(operands, b' ') else {
         return None;
     };
     let Some(number) = read_number(cut.0) else {
@@ -104,10 +104,10 @@ fn read_opening(said: &[u8]) -> Option<Opening>
 }
 
 /// Reads a number, a space and bytes in hexadecimal digits.
-fn read_input(alloc: Global, said: &[u8]) -> Result<Option<Input>, AllocError>
-    ensures { IfOk result (Finds (λ input. IsInputIn said.now input.number input.bytes.items)) }
+fn read_input(alloc: Global, operands: &[u8]) -> Result<Option<Input>, AllocError>
+    ensures { IfOk result (Finds (λ input. IsInputIn operands.now input.number input.bytes.items)) }
 {
-    let Some(cut) = cut_at(said, b' ') else {
+    let Some(cut) = cut_at(operands, b' ') else {
         return Ok(None);
     };
     let Some(number) = read_number(cut.0) else {
@@ -151,12 +151,12 @@ fn has_capital(digits: &[u8]) -> bool
 /// Reads a device's name, a space and a line that the device sends.
 fn read_device_line(
     alloc: Global,
-    said: &[u8],
+    operands: &[u8],
     devices: &[Text],
 ) -> Result<Option<Line>, AllocError>
-    ensures { IfOk result (λ line. Finds (IsLine devices.now (codes "dev " ++ said.now)) line) }
+    ensures { IfOk result (λ line. Finds (IsLine devices.now (codes "dev " ++ operands.now)) line) }
 {
-    let Some(cut) = cut_at(said, b' ') else {
+    let Some(cut) = cut_at(operands, b' ') else {
         return Ok(None);
     };
     let Some(place) = place_of(devices, cut.0) else {

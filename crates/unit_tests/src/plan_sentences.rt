@@ -4,7 +4,7 @@ use std::alloc::{AllocError, Global};
 use std::test::Fail;
 
 /// Inputs, and the sentence about each; empty for an input that is proved best.
-const SAID: [(&str, &str); 8] = [
+const SENTENCES: [(&str, &str); 8] = [
     ("plan\nend\n", ""),
     (
         "",
@@ -37,7 +37,7 @@ const SAID: [(&str, &str); 8] = [
 ];
 
 /// The sentence about an input. The only error is out of memory.
-fn said_of(alloc: Global, text: &str) -> Result<String, AllocError> {
+fn sentence_of(alloc: Global, text: &str) -> Result<String, AllocError> {
     let mut input = text.as_bytes();
     let mut output = Vec::new(alloc);
     match run_check(alloc, &mut input, &mut output, false).objection {
@@ -48,9 +48,9 @@ fn said_of(alloc: Global, text: &str) -> Result<String, AllocError> {
 
 #[test]
 fn objections(rt: HostRuntime) -> Result<(), Fail> {
-    for &(text, said) in &SAID {
-        let sentence = said_of(rt.alloc(), text)?;
-        assert_eq!(rt; sentence.as_str(), said);
+    for &(text, expected) in &SENTENCES {
+        let sentence = sentence_of(rt.alloc(), text)?;
+        assert_eq!(rt; sentence.as_str(), expected);
     }
     Ok(())
 }

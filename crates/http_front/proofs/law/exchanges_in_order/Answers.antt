@@ -4,4 +4,4 @@ use Rattle.http_front.proofs.Orders.{order_in}
 use Rattle.http_front.proofs.law.exchanges_in_order.Goals as goal
 
 pub returns : goal.returns
-returns c = λ stream said x. order_in x.0 Between Head stream said tt x.1
+returns c = λ stream parsed x. order_in x.0 Between Head stream parsed tt x.1

@@ -4,7 +4,7 @@ use Rattle.ipp_codec.proofs.Steps.{AtTagOf, opened_steps, field_fails, value_bre
 use Rattle.ipp_codec.proofs.place.next_of.Goals as goal
 
 refused : (b : Bool) (P : Type 0) → IsTrue b ↔ P → b ≡ false → ¬ P
-refused b P iff h p = let said : b ≡ true = iff.1 p in absurd cc
+refused b P iff h p = let holds : b ≡ true = iff.1 p in absurd cc
 
 pub returns-then-tag-lt-FIRST_VALUE_TAG : goal.returns-then-tag-lt-FIRST_VALUE_TAG
 returns-then-tag-lt-FIRST_VALUE_TAG c = opened_steps c.args.place c.args.bytes.now c.in-len1-up.len_at_least c.if-tag-eq0.false c.if-tag-lt-FIRST_VALUE_TAG.true c.if-tag-eq-END.false (omega arith)

@@ -5,7 +5,7 @@ use Rattle.ipp_operations.proofs.parsed_request.parse_operation.Goals as goal
 
 pub returns-in-Ok-clause-asked : goal.returns-in-Ok-clause-asked
 returns-in-Ok-clause-asked c =
-    IfOk-weaker c.parse_event.result _ _ (λ said by. asks_by c.args.decoder.now c.args.document.now c.args.header c.in-Ok.operation said (sym c.operation_of.ensures ∙ c.in-Ok.is) by) c.parse_event.ensures.asked
+    IfOk-weaker c.parse_event.result _ _ (λ parsed by. asks_by c.args.decoder.now c.args.document.now c.args.header c.in-Ok.operation parsed (sym c.operation_of.ensures ∙ c.in-Ok.is) by) c.parse_event.ensures.asked
 
 pub returns-in-Err-clause-asked : goal.returns-in-Err-clause-asked
 returns-in-Err-clause-asked c = asks_none c.args.decoder.now c.args.document.now c.args.header c.in-Err.status (sym c.operation_of.ensures ∙ c.in-Err.is)

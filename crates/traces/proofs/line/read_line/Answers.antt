@@ -8,26 +8,26 @@ use Rattle.traces.proofs.line.read_line.Goals as goal
 
 pub returns-in-Some-strip_prefix-2 : goal.returns-in-Some-strip_prefix-2
 returns-in-Some-strip_prefix-2 c =
-    let said = c.in-Some-strip_prefix-2.said in
-    let is : c.args.text.now ≡ codes "dev " ++ said.now =
-    strip_prefix_is Decides-eqb c.args.text.now (codes "dev ") (Some said) c.in-Some-strip_prefix-2.ensures.cases in
+    let operands = c.in-Some-strip_prefix-2.operands in
+    let is : c.args.text.now ≡ codes "dev " ++ operands.now =
+    strip_prefix_is Decides-eqb c.args.text.now (codes "dev ") (Some operands) c.in-Some-strip_prefix-2.ensures.cases in
     rw is c.read_device_line.ensures
 
 pub returns-in-Some-strip_prefix-3 : goal.returns-in-Some-strip_prefix-3
 returns-in-Some-strip_prefix-3 c =
-    let said = c.in-Some-strip_prefix-3.said in
-    let is : c.args.text.now ≡ codes "open " ++ said.now =
-    strip_prefix_is Decides-eqb c.args.text.now (codes "open ") (Some said) c.in-Some-strip_prefix-3.ensures.cases in
+    let operands = c.in-Some-strip_prefix-3.operands in
+    let is : c.args.text.now ≡ codes "open " ++ operands.now =
+    strip_prefix_is Decides-eqb c.args.text.now (codes "open ") (Some operands) c.in-Some-strip_prefix-3.ensures.cases in
     let mapped : c.map-in-Some-strip_prefix-3.result ≡ option_map Open c.read_opening.result = search rules in
-    rw mapped (found_opening c.args.devices.now c.args.text.now said.now c.read_opening.result is c.read_opening.ensures)
+    rw mapped (found_opening c.args.devices.now c.args.text.now operands.now c.read_opening.result is c.read_opening.ensures)
 
 pub returns-in-Some-strip_prefix-4 : goal.returns-in-Some-strip_prefix-4
 returns-in-Some-strip_prefix-4 c =
-    let said = c.in-Some-strip_prefix-4.said in
-    let is : c.args.text.now ≡ codes "in " ++ said.now =
-    strip_prefix_is Decides-eqb c.args.text.now (codes "in ") (Some said) c.in-Some-strip_prefix-4.ensures.cases in
+    let operands = c.in-Some-strip_prefix-4.operands in
+    let is : c.args.text.now ≡ codes "in " ++ operands.now =
+    strip_prefix_is Decides-eqb c.args.text.now (codes "in ") (Some operands) c.in-Some-strip_prefix-4.ensures.cases in
     let mapped : c.map-in-Some-strip_prefix-4.result ≡ option_map In c.in_ok-read_input.field-0 = search rules in
-    rw mapped (found_in c.args.devices.now c.args.text.now said.now c.in_ok-read_input.field-0 is (c.in_ok-read_input.ensures {u = tt}))
+    rw mapped (found_in c.args.devices.now c.args.text.now operands.now c.in_ok-read_input.field-0 is (c.in_ok-read_input.ensures {u = tt}))
 
 pub returns-in-Some-strip_prefix-5 : goal.returns-in-Some-strip_prefix-5
 returns-in-Some-strip_prefix-5 c =

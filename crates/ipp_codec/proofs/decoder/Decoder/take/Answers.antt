@@ -12,5 +12,5 @@ loop-self-preserved c =
 pub returns-else-awaits-clause-taken : goal.returns-else-awaits-clause-taken
 returns-else-awaits-clause-taken c =
     let fits : IsBytes c.args.segment.now = λ i. omega (arith, c.type_inv.segment i) in
-    let over : ¬ (MayCome c.loop-self.self) = λ may. let said : c.awaits.result ≡ true = c.awaits.ensures.1 may in absurd cc in
+    let over : ¬ (MayCome c.loop-self.self) = λ may. let holds : c.awaits.result ≡ true = c.awaits.ensures.1 may in absurd cc in
     over_taken c.args.self.now c.loop-self.self c.args.segment.now c.loop-self.rest.now fits c.loop-self.invariant over

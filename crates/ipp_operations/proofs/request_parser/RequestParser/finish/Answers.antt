@@ -8,5 +8,5 @@ pub returns-clause-asked : goal.returns-clause-asked
 returns-clause-asked c =
     let reader : ReaderState = record { decoder = c.self.inside.decoder; document = c.self.inside.document } in
     IfOk-weaker c.parse_header.result _ _
-    (λ said asks bytes has_read. let same : HasRead bytes reader = subst (λ (r : ReaderState). HasRead bytes r) (sym c.self.view_is) has_read in asks bytes same.reaches (holds bytes reader same))
+    (λ parsed asks bytes has_read. let same : HasRead bytes reader = subst (λ (r : ReaderState). HasRead bytes r) (sym c.self.view_is) has_read in asks bytes same.reaches (holds bytes reader same))
     c.parse_header.ensures.asked

@@ -25,18 +25,18 @@ use Rattle.plan_text.proofs.Sound.{ok}
 use Rattle.plan_text.proofs.Again.{lacks, spaced, split_words, lacks-spaced, lacks-append, lacks-map, number_again, numbers_again, all_numbers, decimal_is_number, decimal_lacks, entries_again, all_entries, entry_lacks, prices_again, all_prices, price_lacks, name_lacks, none_in}
 
 -- the contents that a line may have
-abbrev pub SaidInRange : PlanLine → Type 0
-SaidInRange HeadLine = Unit {0}
-SaidInRange (DeviceLine name) = is_name name ≡ true
-SaidInRange (ClassLine priority) = IsPriority priority
-SaidInRange (JobLine id times) = IsJobId id × All (λ entry. IfSome entry IsTime) times
-SaidInRange (WaitLine waits) = All (λ wait. wait ≤ WAIT) waits
-SaidInRange (WayLine device jobs) = (is_name device ≡ true) × All IsJobId jobs
-SaidInRange (TotalLine total) = total ≤ AMOUNT
-SaidInRange (JobPricesLine prices) = All IsPrice prices
-SaidInRange (PlacePricesLine device prices) = (is_name device ≡ true) × All IsPrice prices
-SaidInRange (StrandedLine stranded) = IsJobId stranded.job
-SaidInRange EndLine = Unit {0}
+abbrev pub ParsedInRange : PlanLine → Type 0
+ParsedInRange HeadLine = Unit {0}
+ParsedInRange (DeviceLine name) = is_name name ≡ true
+ParsedInRange (ClassLine priority) = IsPriority priority
+ParsedInRange (JobLine id times) = IsJobId id × All (λ entry. IfSome entry IsTime) times
+ParsedInRange (WaitLine waits) = All (λ wait. wait ≤ WAIT) waits
+ParsedInRange (WayLine device jobs) = (is_name device ≡ true) × All IsJobId jobs
+ParsedInRange (TotalLine total) = total ≤ AMOUNT
+ParsedInRange (JobPricesLine prices) = All IsPrice prices
+ParsedInRange (PlacePricesLine device prices) = (is_name device ≡ true) × All IsPrice prices
+ParsedInRange (StrandedLine stranded) = IsJobId stranded.job
+ParsedInRange EndLine = Unit {0}
 
 -- the first word of a line, and the words after it
 abbrev pub first_of : PlanLine → List ℕ
@@ -67,7 +67,7 @@ rest_of EndLine = []
 
 -- the line without its line feed
 abbrev pub body_of : PlanLine → List ℕ
-body_of said = first_of said ++ spaced (rest_of said)
+body_of parsed = first_of parsed ++ spaced (rest_of parsed)
 
 entries_spaced : (times : List (Option ℕ)) → entries_text times ≡ spaced (map entry_word times)
 entries_spaced [] = refl
@@ -91,7 +91,7 @@ word_and word text words e = ap (λ t. word ++ (t ++ feed)) e ∙ sym (append_as
 only_and : (word : List ℕ) → word ++ feed ≡ (word ++ []) ++ feed
 only_and word = ap (λ w. w ++ feed) (sym (append-nil word))
 
-pub line_is : (said : PlanLine) → line_text said ≡ body_of said ++ feed
+pub line_is : (parsed : PlanLine) → line_text parsed ≡ body_of parsed ++ feed
 unfolding line_text
 line_is HeadLine = refl
 line_is (DeviceLine name) = ap (λ rest. codes "device " ++ rest) (only_and name)
@@ -117,7 +117,7 @@ cause_lacks causes.Finishings = (refl, refl)
 cause_lacks causes.Media = (refl, refl)
 cause_lacks causes.Running = (refl, refl)
 
-first_lacks : (said : PlanLine) → (lacks 32 (first_of said) ≡ true) × (lacks 10 (first_of said) ≡ true)
+first_lacks : (parsed : PlanLine) → (lacks 32 (first_of parsed) ≡ true) × (lacks 10 (first_of parsed) ≡ true)
 first_lacks HeadLine = (refl, refl)
 first_lacks (DeviceLine name) = (refl, refl)
 first_lacks (ClassLine priority) = (refl, refl)
@@ -136,7 +136,7 @@ all_of_two a b ha hb = rw (ha, hb) refl
 one_lacks : (byte : ℕ) (word : List ℕ) → lacks byte word ≡ true → list_all (lacks byte) (word ∷ []) ≡ true
 one_lacks byte word h = and_from (lacks byte word) true h refl
 
-rest_lacks_space : (said : PlanLine) → SaidInRange said → list_all (lacks 32) (rest_of said) ≡ true
+rest_lacks_space : (parsed : PlanLine) → ParsedInRange parsed → list_all (lacks 32) (rest_of parsed) ≡ true
 rest_lacks_space HeadLine h = refl
 rest_lacks_space (DeviceLine name) h = one_lacks 32 name (name_lacks 32 name refl h)
 rest_lacks_space (ClassLine priority) h = one_lacks 32 (decimal priority) (decimal_lacks 32 priority refl (omega (arith, h.1)))
@@ -149,7 +149,7 @@ rest_lacks_space (PlacePricesLine device prices) h = and_from (lacks 32 device) 
 rest_lacks_space (StrandedLine stranded) h = all_of_two (lacks 32 (decimal stranded.job)) (lacks 32 (cause_word stranded.cause)) (decimal_lacks 32 stranded.job refl (omega (arith, h.1))) (cause_lacks stranded.cause).0
 rest_lacks_space EndLine h = refl
 
-rest_lacks_feed : (said : PlanLine) → SaidInRange said → list_all (lacks 10) (rest_of said) ≡ true
+rest_lacks_feed : (parsed : PlanLine) → ParsedInRange parsed → list_all (lacks 10) (rest_of parsed) ≡ true
 rest_lacks_feed HeadLine h = refl
 rest_lacks_feed (DeviceLine name) h = one_lacks 10 name (name_lacks 10 name refl h)
 rest_lacks_feed (ClassLine priority) h = one_lacks 10 (decimal priority) (decimal_lacks 10 priority refl (omega (arith, h.1)))
@@ -162,8 +162,8 @@ rest_lacks_feed (PlacePricesLine device prices) h = and_from (lacks 10 device) (
 rest_lacks_feed (StrandedLine stranded) h = all_of_two (lacks 10 (decimal stranded.job)) (lacks 10 (cause_word stranded.cause)) (decimal_lacks 10 stranded.job refl (omega (arith, h.1))) (cause_lacks stranded.cause).1
 rest_lacks_feed EndLine h = refl
 
-body_lacks : (said : PlanLine) → SaidInRange said → lacks 10 (body_of said) ≡ true
-body_lacks said h = lacks-append 10 (first_of said) (spaced (rest_of said)) (first_lacks said).1 (lacks-spaced (rest_of said) (rest_lacks_feed said h))
+body_lacks : (parsed : PlanLine) → ParsedInRange parsed → lacks 10 (body_of parsed) ≡ true
+body_lacks parsed h = lacks-append 10 (first_of parsed) (spaced (rest_of parsed)) (first_lacks parsed).1 (lacks-spaced (rest_of parsed) (rest_lacks_feed parsed h))
 
 -- ---- the words of a line are read as its content
 
@@ -176,28 +176,28 @@ cause_again causes.Finishings = refl
 cause_again causes.Media = refl
 cause_again causes.Running = refl
 
-said_again : (said : PlanLine) → SaidInRange said → line_at (first_of said ∷ rest_of said) ≡ ok said
+parsed_again : (parsed : PlanLine) → ParsedInRange parsed → line_at (first_of parsed ∷ rest_of parsed) ≡ ok parsed
 unfolding line_of device_at class_at job_at wait_at way_at total_at job_prices_at place_prices_at stranded_at
-said_again HeadLine h = refl
-said_again (DeviceLine name) h = rw h refl
-said_again (ClassLine priority) h = rw (number_again 1 HIGHEST_PRIORITY priority h.0 h.1 (omega (arith, h.1))) refl
-said_again (JobLine id times) h = rw (decimal_is_number id (omega (arith, h.0.1)), all_entries times h.1, number_again 1 LAST_JOB_ID id h.0.0 h.0.1 (omega (arith, h.0.1)), entries_again times h.1) refl
-said_again (WaitLine waits) h = rw (all_numbers WAIT waits (omega arith) h, numbers_again 0 WAIT waits (omega arith) (λ k d l. (omega arith, h k d l))) refl
-said_again (WayLine device jobs) h = rw (h.0, all_numbers LAST_JOB_ID jobs (omega arith) (λ k d l. (h.1 k d l).1), numbers_again 1 LAST_JOB_ID jobs (omega arith) h.1) refl
-said_again (TotalLine total) h = rw (number_again 0 AMOUNT total (omega arith) h (omega (arith, h))) refl
-said_again (JobPricesLine prices) h = rw (all_prices prices h, prices_again prices h) refl
-said_again (PlacePricesLine device prices) h = rw (h.0, all_prices prices h.1, prices_again prices h.1) refl
-said_again (StrandedLine stranded) h = rw (cause_again stranded.cause, number_again 1 LAST_JOB_ID stranded.job h.0 h.1 (omega (arith, h.1))) refl
-said_again EndLine h = refl
+parsed_again HeadLine h = refl
+parsed_again (DeviceLine name) h = rw h refl
+parsed_again (ClassLine priority) h = rw (number_again 1 HIGHEST_PRIORITY priority h.0 h.1 (omega (arith, h.1))) refl
+parsed_again (JobLine id times) h = rw (decimal_is_number id (omega (arith, h.0.1)), all_entries times h.1, number_again 1 LAST_JOB_ID id h.0.0 h.0.1 (omega (arith, h.0.1)), entries_again times h.1) refl
+parsed_again (WaitLine waits) h = rw (all_numbers WAIT waits (omega arith) h, numbers_again 0 WAIT waits (omega arith) (λ k d l. (omega arith, h k d l))) refl
+parsed_again (WayLine device jobs) h = rw (h.0, all_numbers LAST_JOB_ID jobs (omega arith) (λ k d l. (h.1 k d l).1), numbers_again 1 LAST_JOB_ID jobs (omega arith) h.1) refl
+parsed_again (TotalLine total) h = rw (number_again 0 AMOUNT total (omega arith) h (omega (arith, h))) refl
+parsed_again (JobPricesLine prices) h = rw (all_prices prices h, prices_again prices h) refl
+parsed_again (PlacePricesLine device prices) h = rw (h.0, all_prices prices h.1, prices_again prices h.1) refl
+parsed_again (StrandedLine stranded) h = rw (cause_again stranded.cause, number_again 1 LAST_JOB_ID stranded.job h.0 h.1 (omega (arith, h.1))) refl
+parsed_again EndLine h = refl
 
-pub line_again : (said : PlanLine) → SaidInRange said → line_at (words_of (body_of said)) ≡ ok said
-line_again said h = ap line_at (split_words (first_of said) (rest_of said) (first_lacks said).0 (rest_lacks_space said h)) ∙ said_again said h
+pub line_again : (parsed : PlanLine) → ParsedInRange parsed → line_at (words_of (body_of parsed)) ≡ ok parsed
+line_again parsed h = ap line_at (split_words (first_of parsed) (rest_of parsed) (first_lacks parsed).0 (rest_lacks_space parsed h)) ∙ parsed_again parsed h
 
 -- ---- the lines of a text
 
 abbrev pub AllInRange : List PlanLine → Type 0
 AllInRange [] = Unit {0}
-AllInRange (said ∷ lines) = SaidInRange said × AllInRange lines
+AllInRange (parsed ∷ lines) = ParsedInRange parsed × AllInRange lines
 
 pub AllInRange-append : (xs ys : List PlanLine) → AllInRange xs → AllInRange ys → AllInRange (xs ++ ys)
 AllInRange-append [] ys hx hy = hy
@@ -208,33 +208,33 @@ none_breaks word h = none_in 10 word h
 
 parts_are : (lines : List PlanLine) → AllInRange lines → texts_of (lines_text lines) ≡ map body_of lines ++ [] ∷ []
 parts_are [] h = refl
-parts_are (said ∷ lines) h =
-    ap (λ text. texts_of (text ++ lines_text lines)) (line_is said)
-    ∙ ap texts_of (append_assoc (body_of said) feed (lines_text lines))
-    ∙ slice_split_at (λ byte. byte == 10) (body_of said) 10 (lines_text lines) (none_breaks (body_of said) (body_lacks said h.0)) refl
-    ∙ ap (λ parts. body_of said ∷ parts) (parts_are lines h.1)
+parts_are (parsed ∷ lines) h =
+    ap (λ text. texts_of (text ++ lines_text lines)) (line_is parsed)
+    ∙ ap texts_of (append_assoc (body_of parsed) feed (lines_text lines))
+    ∙ slice_split_at (λ byte. byte == 10) (body_of parsed) 10 (lines_text lines) (none_breaks (body_of parsed) (body_lacks parsed h.0)) refl
+    ∙ ap (λ parts. body_of parsed ∷ parts) (parts_are lines h.1)
 
 -- the state of the reader after lines with these contents, each in turn
 abbrev pub plan_line_next : DraftRecord → PlanLine → Result DraftRecord TextFault
-plan_line_next draft said = if is_at draft stages.Ended then Err BadLine else next draft said
+plan_line_next draft parsed = if is_at draft stages.Ended then Err BadLine else next draft parsed
 
 abbrev pub plan_lines_next : DraftRecord → List PlanLine → Result DraftRecord TextFault
 plan_lines_next draft [] = Ok draft
-plan_lines_next draft (said ∷ lines) = plan_line_next draft said >>= λ then'. plan_lines_next then' lines
+plan_lines_next draft (parsed ∷ lines) = plan_line_next draft parsed >>= λ then'. plan_lines_next then' lines
 
-line_said : (draft : DraftRecord) (said : PlanLine) → SaidInRange said → line_next draft (body_of said) ≡ plan_line_next draft said
+line_parsed : (draft : DraftRecord) (parsed : PlanLine) → ParsedInRange parsed → line_next draft (body_of parsed) ≡ plan_line_next draft parsed
 unfolding line_next
-line_said draft said h = ap (λ (r : Result PlanLine TextFault). if is_at draft stages.Ended then Err BadLine else (r >>= λ said. next draft said)) (line_again said h)
+line_parsed draft parsed h = ap (λ (r : Result PlanLine TextFault). if is_at draft stages.Ended then Err BadLine else (r >>= λ parsed. next draft parsed)) (line_again parsed h)
 
 each_then : (r : Result DraftRecord TextFault) (f g : DraftRecord → Result DraftRecord TextFault) → ((draft : DraftRecord) → f draft ≡ g draft) → (r >>= f) ≡ (r >>= g)
 each_then (Ok draft) f g same = same draft
 each_then (Err fault) f g same = refl
 
-lines_said : (draft : DraftRecord) (lines : List PlanLine) → AllInRange lines → lines_next draft (map body_of lines) ≡ plan_lines_next draft lines
-lines_said draft [] h = refl
-lines_said draft (said ∷ lines) h =
-    ap (λ (r : Result DraftRecord TextFault). r >>= λ then'. lines_next then' (map body_of lines)) (line_said draft said h.0)
-    ∙ each_then (plan_line_next draft said) (λ then'. lines_next then' (map body_of lines)) (λ then'. plan_lines_next then' lines) (λ then'. lines_said then' lines h.1)
+lines_parsed : (draft : DraftRecord) (lines : List PlanLine) → AllInRange lines → lines_next draft (map body_of lines) ≡ plan_lines_next draft lines
+lines_parsed draft [] h = refl
+lines_parsed draft (parsed ∷ lines) h =
+    ap (λ (r : Result DraftRecord TextFault). r >>= λ then'. lines_next then' (map body_of lines)) (line_parsed draft parsed h.0)
+    ∙ each_then (plan_line_next draft parsed) (λ then'. lines_next then' (map body_of lines)) (λ then'. plan_lines_next then' lines) (λ then'. lines_parsed then' lines h.1)
 
 prefix_is : (xs ys : List (List ℕ)) → take (length xs) (xs ++ ys) ≡ xs
 prefix_is [] ys = refl
@@ -245,9 +245,9 @@ last_is [] x = refl
 last_is (y ∷ xs) x = last_is xs x
 
 -- the result of reading a text of these lines
-pub text_said : (lines : List PlanLine) → AllInRange lines → plan_at (lines_text lines) ≡ (plan_lines_next (empty_draft DEFAULT_PRIORITY) lines >>= λ draft. ended draft [])
+pub text_parsed : (lines : List PlanLine) → AllInRange lines → plan_at (lines_text lines) ≡ (plan_lines_next (empty_draft DEFAULT_PRIORITY) lines >>= λ draft. ended draft [])
 unfolding plan_in plan_from
-text_said lines h =
+text_parsed lines h =
     let whole : List (List ℕ) = map body_of lines in
     let all : List (List ℕ) = whole ++ [] ∷ [] in
     let count : length all - 1 ≡ length whole = omega (arith, length-append whole ([] ∷ [])) in
@@ -255,4 +255,4 @@ text_said lines h =
     ∙ ap (λ n. plan_from (take n all) (slice_index_or all n [])) count
     ∙ ap (λ ls. plan_from ls (slice_index_or all (length whole) [])) (prefix_is whole ([] ∷ []))
     ∙ ap (λ rest. plan_from whole rest) (last_is whole [])
-    ∙ ap (λ (r : Result DraftRecord TextFault). r >>= λ draft. ended draft []) (lines_said (empty_draft DEFAULT_PRIORITY) lines h)
+    ∙ ap (λ (r : Result DraftRecord TextFault). r >>= λ draft. ended draft []) (lines_parsed (empty_draft DEFAULT_PRIORITY) lines h)

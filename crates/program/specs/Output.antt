@@ -12,5 +12,5 @@ abbrev pub refused_as : List ℕ → ProgramOutput
 refused_as name = record { text = codes "refused " ++ (name ++ codes "\n"); status = Ends.Refused }
 
 -- the output with a text before it
-abbrev pub said_after : List ℕ → ProgramOutput → ProgramOutput
-said_after text said = record said { text = text ++ said.text }
+abbrev pub output_after : List ℕ → ProgramOutput → ProgramOutput
+output_after text output = record output { text = text ++ output.text }

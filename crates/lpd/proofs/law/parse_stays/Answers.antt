@@ -1,5 +1,5 @@
 use Rattle.lpd.proofs.ReaderPlace.{all_stays, fault_stays}
-use Rattle.lpd.proofs.law.said_stays.Goals as goal
+use Rattle.lpd.proofs.law.parse_stays.Goals as goal
 
 pub returns-clause-prefix : goal.returns-clause-prefix
 returns-clause-prefix c = all_stays
