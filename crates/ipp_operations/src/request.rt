@@ -2,7 +2,7 @@
 ghost use Rattle.std.specs.Prelude.{◌≡◌, option_map, IfOk};
 ghost use Rattle.ipp_codec.specs.Grammar.{IsMessage};
 ghost use Rattle.ipp_codec.specs.Views.{attribute_shown, group_shown, message_shown};
-ghost use Rattle.ipp_operations.specs.Request.{is_request_id, is_named, begins_request, is_operation_group, operation_group, job_group, job_attributes, is_utf8, user_of};
+ghost use Rattle.ipp_operations.specs.Request.{is_named, begins_request, is_operation_group, operation_group, job_group, job_attributes, is_utf8, user_of};
 
 use crate::attributes::{first_named, name_or};
 use crate::copied::first_of_each;
@@ -12,11 +12,13 @@ use ipp_codec::{AttributeView, GroupTag, GroupView, MessageView, ValueTag};
 use job_template::RequestAttributes;
 use std::alloc::{AllocError, Global};
 
-/// The operation group of a request, which is its first group; `None` if the message isn't a request.
+/// The operation group of a request, which is its first group; `None` if the message isn't a request. The syntax of
+/// a request-id is `integer(1:MAX)` (RFC 8011, section 4.1.2).
 pub(crate) fn operation_group<'a>(message: &MessageView<'a>) -> Option<GroupView<'a>>
     ensures { option_map group_shown result ≡ operation_group (message_shown message.now) }
 {
-    if !is_request_id(message.request_id()) {
+    let id = message.request_id();
+    if id < 1 || Limits::LAST_INTEGER < id {
         return None;
     }
     let group = message.groups().next()?;
@@ -25,13 +27,6 @@ pub(crate) fn operation_group<'a>(message: &MessageView<'a>) -> Option<GroupView
     } else {
         None
     }
-}
-
-/// Returns whether a number is a request-id, whose syntax is `integer(1:MAX)` (RFC 8011, section 4.1.2).
-fn is_request_id(id: u32) -> bool
-    ensures { result ≡ is_request_id id }
-{
-    1 <= id && id <= Limits::LAST_INTEGER
 }
 
 /// Returns whether a group is the operation group of a request.

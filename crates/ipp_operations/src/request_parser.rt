@@ -1,11 +1,10 @@
 //! The parser of bodies that come in segments.
 ghost use Rattle.std.specs.Prelude.{◌≡◌, ◌++◌, ℕ, [], List, IfOk, OnOk, OnErr};
 ghost use Rattle.ipp_operations.specs.ParsedRequest.{Asks, request_id_of};
-ghost use Rattle.ipp_operations.specs.Reader.{HasRead, has_document, sends_document, reads_document};
+ghost use Rattle.ipp_operations.specs.Reader.{HasRead, reads_document};
 
 use crate::header::{header_of, operation_of, request_id};
 use crate::parsed_request::{ParsedRequest, parse_header};
-use events::Status;
 use ipp_codec::{DecodeError, Decoder, Fed};
 use octets::Pages;
 use printer_objects::Operation;
@@ -91,25 +90,11 @@ impl RequestParser {
 fn reads_document(head: &[u8]) -> bool
     ensures { result ≡ reads_document head.now }
 {
-    match header_of(head) {
-        Some(header) => sends_document(operation_of(header)),
-        None => false,
-    }
-}
-
-/// Returns whether a document follows the attributes of a request.
-fn sends_document(asked: Result<Operation, Status>) -> bool
-    ensures { result ≡ sends_document asked }
-{
-    match asked {
-        Ok(operation) => has_document(operation),
+    let Some(header) = header_of(head) else {
+        return false;
+    };
+    match operation_of(header) {
+        Ok(operation) => matches!(operation, Operation::PrintJob | Operation::SendDocument),
         Err(_) => false,
     }
-}
-
-/// Returns whether a document follows the attributes of an operation.
-fn has_document(operation: Operation) -> bool
-    ensures { result ≡ has_document operation }
-{
-    matches!(operation, Operation::PrintJob | Operation::SendDocument)
 }

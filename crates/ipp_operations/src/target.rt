@@ -2,7 +2,7 @@
 ghost use Rattle.std.specs.Prelude.{◌≡◌, IfOk};
 ghost use Rattle.std.specs.Option.{option_copied};
 ghost use Rattle.ipp_codec.specs.Views.{group_shown};
-ghost use Rattle.ipp_operations.specs.Target.{after_scheme, after_known_scheme, path_of, tail, names_first, printer_at, printer_of, printer_target, job_numbered, job_in, job_at, job_of, job_id, job_of_printer, job_target, names_job};
+ghost use Rattle.ipp_operations.specs.Target.{after_scheme, after_known_scheme, path_of, printer_at, printer_of, printer_target, job_in, job_at, job_of, job_id, job_of_printer, job_target, names_job};
 
 use crate::attributes::{has, number_of, value_of};
 use crate::operation_attribute::OperationAttribute;
@@ -44,28 +44,14 @@ fn path_of(rest: &[u8]) -> &[u8]
     }
 }
 
-/// The bytes after a prefix of a path.
-fn tail<'a>(path: &'a [u8], prefix: &[u8]) -> Option<&'a [u8]>
-    ensures { option_copied result ≡ tail prefix.now path.now }
-{
-    path.strip_prefix(prefix)
-}
-
-/// Returns whether a path names the first printer: the empty path, `/` and `/ipp/print` do.
-fn names_first(path: &[u8]) -> bool
-    ensures { result ≡ names_first path.now }
-{
-    path.is_empty() || path == b"/".as_slice() || path == b"/ipp/print".as_slice()
-}
-
-/// The printer of a path.
+/// The printer of a path: the empty path, `/` and `/ipp/print` name the first printer.
 fn printer_at(alloc: Global, path: &[u8]) -> Result<Target, AllocError>
     ensures { IfOk result (λ target. target ≡ printer_at path.now) }
 {
-    if names_first(path) {
+    if path.is_empty() || path == b"/".as_slice() || path == b"/ipp/print".as_slice() {
         return Ok(Target::First);
     }
-    match tail(path, b"/printers/") {
+    match path.strip_prefix(b"/printers/") {
         Some(name) => Ok(Target::Named(Text::copy_of(alloc, name)?)),
         None => Ok(Target::Unknown),
     }
@@ -91,13 +77,6 @@ pub(crate) fn printer_target(alloc: Global, group: &GroupView<'_>) -> Result<Tar
     }
 }
 
-/// The job of a number, if the number is that of a job.
-fn job_numbered(number: u32) -> Option<JobId>
-    ensures { result ≡ job_numbered number }
-{
-    JobId::new(number)
-}
-
 /// The job of a number in decimal digits, without leading zeros.
 fn job_in(word: &[u8]) -> Option<JobId>
     ensures { result ≡ job_in word.now }
@@ -106,14 +85,14 @@ fn job_in(word: &[u8]) -> Option<JobId>
         return None;
     }
     let number = number_up_to(word, u64::from(Limits::LAST_JOB_ID))?;
-    job_numbered(number as u32)
+    JobId::new(number as u32)
 }
 
 /// The job of a path.
 fn job_at(path: &[u8]) -> JobTarget
     ensures { result ≡ job_at path.now }
 {
-    let Some(word) = tail(path, b"/jobs/") else {
+    let Some(word) = path.strip_prefix(b"/jobs/") else {
         return JobTarget::Unknown;
     };
     match job_in(word) {
@@ -136,7 +115,7 @@ fn job_of(uri: &[u8]) -> JobTarget
 fn job_id(group: &GroupView<'_>) -> Option<JobId>
     ensures { result ≡ job_id (group_shown group.now) }
 {
-    job_numbered(number_of(group, OperationAttribute::JobId)?)
+    JobId::new(number_of(group, OperationAttribute::JobId)?)
 }
 
 /// The job of a printer-uri and a job-id. The only error is out of memory.
