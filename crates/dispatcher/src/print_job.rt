@@ -2,10 +2,10 @@
 //! job is taken.
 ghost use Rattle.std.specs.Prelude.{◌≡◌, ◌≤◌, ◌∷◌, [], IfOk, IsOk, IsErr, OnErr, None};
 ghost use Rattle.spool.specs.Calls.{new_refusal};
-ghost use Rattle.dispatcher.specs.PrintJob.{PrintsJob, TakesJob, checked_for_format, checked_for_printer, checked_of};
+ghost use Rattle.dispatcher.specs.PrintJob.{PrintsJob, TakesJob, checked_of};
 
 use crate::answering::{refuse, taken_with};
-use crate::checks::{NamedPrinter, Rejection, checked_format, named_printer};
+use crate::checks::{Rejection, checked_format, named_printer};
 use crate::submission::{Accepted, checked_job, groups_of};
 use base_types::{Moment, Text};
 use events::{Effects, PrintJob};
@@ -64,49 +64,19 @@ fn checked_request(
     ensures err { OnErr result (IsOk (checked_of request now room.now)) }
     ensures free { IfOk result (λ checked. IfOk checked (λ accepted. new_refusal room.now.spool accepted.job.documents ≡ None)) }
 {
-    match named_printer(alloc, room, &request.job.target) {
-        Ok(printer) => checked_for_printer(alloc, room, &printer, request, now),
-        Err(refusal) => Ok(Err(refusal)),
-    }
-}
-
-/// The accepted job of a request at a printer, or the rejection of the first check that fails.
-fn checked_for_printer(
-    alloc: Global,
-    room: &PrintRoom,
-    printer: &NamedPrinter<'_>,
-    request: PrintJob,
-    now: Moment,
-) -> Result<Result<Accepted, Rejection>, AllocError>
-    ensures ok { IfOk result (λ checked. checked ≡ checked_for_printer request now room.now printer.now) }
-    ensures err { OnErr result (IsOk (checked_for_printer request now room.now printer.now)) }
-    ensures free { IfOk result (λ checked. IfOk checked (λ accepted. new_refusal room.now.spool accepted.job.documents ≡ None)) }
-{
-    match checked_format(alloc, &printer.offer, &request.form) {
-        Ok(format) => checked_for_format(alloc, room, printer, format, request, now),
-        Err(refusal) => Ok(Err(refusal)),
-    }
-}
-
-/// The accepted job of a request at a printer that has the document's format, or the rejection of the first
-/// check that fails.
-fn checked_for_format(
-    alloc: Global,
-    room: &PrintRoom,
-    printer: &NamedPrinter<'_>,
-    format: &Text,
-    request: PrintJob,
-    now: Moment,
-) -> Result<Result<Accepted, Rejection>, AllocError>
-    ensures ok { IfOk result (λ checked. checked ≡ checked_for_format request now room.now printer.now format.now) }
-    ensures err { OnErr result (IsOk (checked_for_format request now room.now printer.now format.now)) }
-    ensures free { IfOk result (λ checked. IfOk checked (λ accepted. new_refusal room.now.spool accepted.job.documents ≡ None)) }
-{
+    let printer = match named_printer(alloc, room, &request.job.target) {
+        Ok(printer) => printer,
+        Err(refusal) => return Ok(Err(refusal)),
+    };
+    let format = match checked_format(alloc, &printer.offer, &request.form) {
+        Ok(format) => format,
+        Err(refusal) => return Ok(Err(refusal)),
+    };
     let PrintJob { job, octets, .. } = request;
     let Accepted {
         mut job,
         unsupported,
-    } = match checked_job(alloc, room, printer, job, octets.len(), now)? {
+    } = match checked_job(alloc, room, &printer, job, octets.len(), now)? {
         Ok(accepted) => accepted,
         Err(refusal) => return Ok(Err(refusal)),
     };
