@@ -70,10 +70,6 @@ TakesPart (step.Due due last) t u = (step.Due due last ≡ silent) × (u ≡ wit
 TakesPart (step.Asks ask last) t u = ⊥
 TakesPart (step.Breaks ask) t u = (step.Breaks ask ≡ no_memory) × (u ≡ t)
 
--- the body was taken out, and an empty one is in its place
-abbrev pub LosesBody : ReaderState → IppClientState → IppClientState → Type 0
-LosesBody body t u = (body ≡ t.body) × (u ≡ with_body u.body t) × Body.HasRead [] u.body
-
 -- the body is whole
 abbrev pub EndsIpp : Step → IppClientState → IppClientState → Type 0
 EndsIpp what t u = (u ≡ with_body u.body t) × Body.HasRead [] u.body × ((bytes : List ℕ) → Body.HasRead bytes t.body → EndsBody t.closes bytes what)

@@ -7,7 +7,7 @@ ghost use Rattle.connections.specs.Entry.{opening_entry, ending, broken, superse
 ghost use Rattle.connections.specs.Steps.{due_bytes};
 ghost use Rattle.connections.specs.Asking.{Asking, Feeds};
 ghost use Rattle.connections.specs.Peers.{device_of, closes_of};
-ghost use Rattle.connections.specs.Connections.{load, is_read, is_done, is_ended, is_broken, superseded, Takes, Enqueues, OutgrowsReserve, EnqueuesAs};
+ghost use Rattle.connections.specs.Connections.{load, is_read, is_done, is_ended, is_broken, superseded, Takes, OutgrowsReserve, EnqueuesAs};
 ghost use Rattle.connections.specs.Representation.{RepresentsConnection, Becomes};
 
 use crate::ask::{AllocFailure, Ask};
@@ -194,7 +194,13 @@ impl Connection {
         match step {
             Step::Due { due, last } => {
                 self.draining = last;
-                self.acknowledge(due)
+                match push(&mut self.output, due) {
+                    Ok(()) => Ask::Nothing,
+                    Err(_) => {
+                        self.broken = true;
+                        Ask::Broke(AllocFailure::Output)
+                    }
+                }
             }
             Step::Asks { ask, last } => {
                 self.draining = last;
@@ -203,19 +209,6 @@ impl Connection {
             Step::Breaks(ask) => {
                 self.broken = true;
                 ask
-            }
-        }
-    }
-
-    /// Enqueues the bytes that a step makes due. If memory is refused, the connection breaks.
-    fn acknowledge(&mut self, due: Due) -> Ask
-        ensures { Enqueues (due_bytes due) self.old result self.new }
-    {
-        match push(&mut self.output, due) {
-            Ok(()) => Ask::Nothing,
-            Err(_) => {
-                self.broken = true;
-                Ask::Broke(AllocFailure::Output)
             }
         }
     }

@@ -4,7 +4,7 @@ ghost use Rattle.http_front.specs.Stream.{AwaitsBody};
 ghost use Rattle.ipp_operations.specs.ParsedRequest.{Asks};
 ghost use Rattle.ipp_operations.specs.Reader.{HasRead};
 ghost use Rattle.connections.specs.Steps.{EndsBody, asked_step};
-ghost use Rattle.connections.specs.Peers.{IsNewIpp, IsFedIpp, FeedsReader, FeedsBody, NextIpp, TakesIfItem, ReportsBody, HandlesIpp, BeginsIpp, TakesPart, EndsIpp, LosesBody};
+ghost use Rattle.connections.specs.Peers.{IsNewIpp, IsFedIpp, FeedsBody, NextIpp, TakesIfItem, HandlesIpp, TakesPart, EndsIpp};
 
 use crate::ask::{AllocFailure, Ask, Client};
 use crate::step::{Due, Step};
@@ -56,30 +56,9 @@ impl IppClient {
         ensures err { OnErr result (self.new ≡ self.old) }
     {
         match u32::try_from(segment.len()) {
-            Ok(count) => self.feed_counted(segment, count),
-            Err(_) => self.feed_reader(segment),
+            Ok(count) if self.reader.awaits_body(count) => self.feed_body(segment, count),
+            Ok(_) | Err(_) => self.reader.feed(segment),
         }
-    }
-
-    /// Feeds so many bytes to the reader, or to the body.
-    fn feed_counted(&mut self, segment: &[u8], count: u32) -> Result<(), AllocError>
-        requires { length segment.now ≡ count }
-        ensures ok { OnOk result (IsFedIpp segment.now self.old self.new) }
-        ensures err { OnErr result (self.new ≡ self.old) }
-    {
-        if self.reader.awaits_body(count) {
-            self.feed_body(segment, count)
-        } else {
-            self.feed_reader(segment)
-        }
-    }
-
-    /// Feeds bytes to the reader.
-    fn feed_reader(&mut self, segment: &[u8]) -> Result<(), AllocError>
-        ensures ok { OnOk result (FeedsReader segment.now self.old self.new) }
-        ensures err { OnErr result (self.new ≡ self.old) }
-    {
-        self.reader.feed(segment)
     }
 
     /// Feeds so many bytes, which are bytes of a body, to that body.
@@ -109,7 +88,8 @@ impl IppClient {
         ensures { NextIpp result self.old self.new }
     {
         if self.unreported {
-            return Some(self.report_body());
+            self.unreported = false;
+            return Some(due(Due::Nothing, false));
         }
         self.next_item()
     }
@@ -126,35 +106,21 @@ impl IppClient {
         }
     }
 
-    /// Returns the step for the bytes that the body was fed: nothing comes of them yet.
-    fn report_body(&mut self) -> Step
-        requires { self.old.unreported ≡ true }
-        ensures { ReportsBody result self.old self.new }
-    {
-        self.unreported = false;
-        due(Due::Nothing, false)
-    }
-
     /// Returns the step for an item that was just taken off the stream.
     fn handle(&mut self, item: HttpItem) -> Step
         ensures { HandlesIpp item result self.old self.new }
     {
         match item {
-            HttpItem::Head { closes } => self.begin(closes),
+            HttpItem::Head { closes } => {
+                self.closes = closes;
+                self.body = RequestParser::new(self.alloc);
+                due(Due::Nothing, false)
+            }
             HttpItem::Continue => due(Due::Continue, false),
             HttpItem::BodyPart => self.take_part(),
             HttpItem::BodyEnd => self.end_body(),
             HttpItem::Refuse(refusal) => due(Due::Refusal(refusal), true),
         }
-    }
-
-    /// Begins a request, with an empty body.
-    fn begin(&mut self, closes: bool) -> Step
-        ensures { BeginsIpp closes result self.old self.new }
-    {
-        self.closes = closes;
-        self.body = RequestParser::new(self.alloc);
-        due(Due::Nothing, false)
     }
 
     /// Feeds the last part of the body to its parser.
@@ -171,16 +137,9 @@ impl IppClient {
     fn end_body(&mut self) -> Step
         ensures { EndsIpp result self.old self.new }
     {
-        let mut body = self.take_body();
-        whole_step(self.closes, &mut body)
-    }
-
-    /// Takes the body out, and leaves an empty one.
-    fn take_body(&mut self) -> RequestParser
-        ensures { LosesBody result self.old self.new }
-    {
         let next = RequestParser::new(self.alloc);
-        mem::replace(&mut self.body, next)
+        let mut body = mem::replace(&mut self.body, next);
+        whole_step(self.closes, &mut body)
     }
 }
 
