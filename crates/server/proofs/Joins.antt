@@ -80,6 +80,10 @@ module _ {S : Type 0} {moves : S → Happening → S → Type 0} where
       quietly_as moves (Then (Happens moment event outcome) (Answers key id who (is_query event) (effects_of outcome))) (IsAnswered moment key id who event) u w a c (λ l hs l' fits fits' it. (outcome, it))
       (quietly_then moves (Happens moment event outcome) (Answers key id who (is_query event) (effects_of outcome)) u v w a b c p.refines notified)
 
+  -- the reply to a client, for an equal client
+  pub answers_as : (key id : ℕ) (query : Bool) (reply : Option Effects) {who what : Client} {u v : S} {a b : EngineState} → who ≡ what → RefinesQuietly moves (Answers key id what query reply) u a v b → RefinesQuietly moves (Answers key id who query reply) u a v b
+  answers_as key id query reply {who} {what} {u} {v} {a} {b} is p = subst (λ (it : Client). RefinesQuietly moves (Answers key id it query reply) u a v b) (sym is) p
+
   -- a request was dropped
   pub replies_none : (key id request : ℕ) (query : Bool) {reply : Option Effects} {u v : S} {a b : EngineState} → reply ≡ None → RefinesQuietly moves (Drops key id request) u a v b → RefinesQuietly moves (Replies key id request query reply) u a v b
   replies_none key id request query {reply} {u} {v} {a} {b} none p = as_none moves (Replies key id request query) reply u v a b none p

@@ -4,7 +4,6 @@ use Rattle.events.specs.declared.event.Event.{Event}
 use Rattle.events.specs.declared.effects.Effects.{Effects}
 use Rattle.events.specs.declared.effects.Response.{Response}
 use Rattle.events.specs.declared.effects.Response.TheVariants as responds
-use Rattle.events.specs.declared.effects.IppResponse.{IppResponse}
 use Rattle.events.specs.declared.effects.LpdResponse.{LpdResponse}
 use Rattle.events.specs.declared.effects.LpdResponse.TheVariants as Shown
 use Rattle.events.specs.declared.status.Status.TheVariants.{TemporaryError}
@@ -33,12 +32,6 @@ Drops key id request = Then (Notifies (Refused At.Event (Some id))) (EnqueuesSta
 -- temporary error. After any other event the connection breaks.
 abbrev pub LosesReply : ℕ → ℕ → ℕ → Bool → Rel
 LosesReply key id request query = Then (Notifies (Refused At.Reply (Some id))) (If query (EnqueuesStatus key TemporaryError request) (Breaks key))
-
--- the response to an IPP request, if the response is one
-abbrev pub ipp_answer : Response → Option IppResponse
-ipp_answer (responds.Ipp answer) = Some answer
-ipp_answer (responds.Lpd answer) = None
-ipp_answer responds.Nothing = None
 
 -- the bytes of a response become due, or memory for them is refused
 abbrev pub RepliesWith : ℕ → ℕ → ℕ → Bool → Response → Rel

@@ -1,7 +1,6 @@
 //! The replies to the events of clients.
-ghost use Rattle.std.specs.Prelude.{◌≡◌};
 ghost use Rattle.ipp_operations.specs.QueueText.{text_of};
-ghost use Rattle.server.specs.Answering.{IsAnswered, Answers, Replies, RepliesWith, LosesReply, Drops, ipp_answer, Declines, Acknowledges, Responds, IsShown, SendsLpd, Shows};
+ghost use Rattle.server.specs.Answering.{IsAnswered, Replies, RepliesWith, LosesReply, Drops, Declines, Acknowledges, Responds, IsShown, SendsLpd, Shows};
 ghost use Rattle.server.specs.Refinement.{RefinesNotified};
 
 use crate::acting::EventOrigin;
@@ -11,7 +10,7 @@ use base_types::Moment;
 use connections::table::break_off;
 use connections::{Client, Outgoing};
 use dispatcher::{AllocationSite, Observer};
-use events::{Effects, Event, IppResponse, LpdResponse, Response, Status};
+use events::{Effects, Event, LpdResponse, Response, Status};
 use ipp_operations::{REFUSED, ipp_refusal, ipp_response, lpd_ack, lpd_queue_text};
 use plan_prices::Planner;
 
@@ -29,20 +28,7 @@ impl<P: Planner + Drop> Engine<P> {
     {
         let query = event.is_query();
         let ended = self.handle(moment, event, notes);
-        self.answer(origin, client, query, effects_of(ended.handled), notes);
-    }
-
-    /// Enqueues the reply to an event of a client. `reply` is `None` if the event was dropped, out of memory.
-    fn answer<N: Observer>(
-        &mut self,
-        origin: EventOrigin,
-        client: Client,
-        query: bool,
-        reply: Option<Effects>,
-        notes: &mut N,
-    )
-        ensures { RefinesNotified N.notified (Answers origin.key origin.id client query reply) notes.old self.old notes.new self.new }
-    {
+        let reply = effects_of(ended.handled);
         match client {
             Client::Ipp(request) => self.reply(origin, request, query, reply, notes),
             Client::LpdJob => self.answer_job(origin, reply, notes),
@@ -97,7 +83,7 @@ impl<P: Planner + Drop> Engine<P> {
     )
         ensures { RefinesNotified N.notified (RepliesWith origin.key origin.id request query answer) notes.old self.old notes.new self.new }
     {
-        let Some(answer) = ipp_answer(answer) else {
+        let Response::Ipp(answer) = answer else {
             return;
         };
         match ipp_response(self.alloc, answer, request) {
@@ -216,16 +202,5 @@ impl<P: Planner + Drop> Engine<P> {
                 break_off(&mut self.connections, origin.key);
             }
         }
-    }
-}
-
-/// The response to an IPP request, if the response is one.
-fn ipp_answer(answer: Response) -> Option<IppResponse>
-    ensures { result ≡ ipp_answer answer }
-{
-    match answer {
-        Response::Ipp(answer) => Some(answer),
-        Response::Lpd(_) => None,
-        Response::Nothing => None,
     }
 }

@@ -2,7 +2,7 @@
 ghost use Rattle.std.specs.Prelude.{◌≡◌, Some};
 ghost use Rattle.dispatcher.specs.Run.{effects_of};
 ghost use Rattle.server.specs.Rel.{EachOf};
-ghost use Rattle.server.specs.Happening.{Decides, Happens, Orders, Sends, StartsBy, is_undispatched, undispatched_after, was_refused, refused_after};
+ghost use Rattle.server.specs.Happening.{Decides, Happens, Orders, Sends, is_undispatched, undispatched_after};
 ghost use Rattle.server.specs.Refinement.{Reports};
 
 use crate::due::notify;
@@ -73,19 +73,11 @@ impl<P: Planner + Drop> Engine<P> {
         ensures { Reports N.notified (Orders (Some handled.now)) notes.old self.old notes.new self.new result }
     {
         let unsent = self.send_all(&handled.effects.cancels, notes);
-        let unstarted = self.start_by(handled.dispatch, notes);
-        unsent | unstarted
-    }
-
-    /// Enqueues the bytes of the jobs that a dispatch began, by device. Returns whether memory was refused.
-    fn start_by<N: Observer>(&mut self, dispatch: Dispatch, notes: &mut N) -> bool
-        ensures { Reports N.notified (StartsBy dispatch) notes.old self.old notes.new self.new result }
-    {
-        match dispatch {
-            Dispatch::Planned => start_all(&self.core, &mut self.connections, notes),
-            Dispatch::Query => false,
-            Dispatch::OutOfMemory => false,
-            Dispatch::Idle => false,
+        match handled.dispatch {
+            Dispatch::Planned => unsent | start_all(&self.core, &mut self.connections, notes),
+            Dispatch::Query => unsent,
+            Dispatch::OutOfMemory => unsent,
+            Dispatch::Idle => unsent,
         }
     }
 
@@ -129,18 +121,11 @@ fn is_undispatched(handled: &Option<Handled>) -> bool
     ensures { result ≡ is_undispatched handled.now }
 {
     match handled {
-        Some(handled) => was_refused(handled.dispatch),
+        Some(handled) => match handled.dispatch {
+            Dispatch::OutOfMemory => true,
+            Dispatch::Query | Dispatch::Idle | Dispatch::Planned => false,
+        },
         None => false,
-    }
-}
-
-/// Returns whether a dispatch was refused memory.
-fn was_refused(dispatch: Dispatch) -> bool
-    ensures { result ≡ was_refused dispatch }
-{
-    match dispatch {
-        Dispatch::OutOfMemory => true,
-        Dispatch::Query | Dispatch::Idle | Dispatch::Planned => false,
     }
 }
 
@@ -149,18 +134,11 @@ fn undispatched_after(handled: &Option<Handled>, before: bool) -> bool
     ensures { result ≡ undispatched_after handled.now before }
 {
     match handled {
-        Some(handled) => refused_after(handled.dispatch, before),
+        Some(handled) => match handled.dispatch {
+            Dispatch::Query => before,
+            Dispatch::OutOfMemory => true,
+            Dispatch::Idle | Dispatch::Planned => false,
+        },
         None => before,
-    }
-}
-
-/// Returns whether the last dispatch was refused memory, after this one.
-fn refused_after(dispatch: Dispatch, before: bool) -> bool
-    ensures { result ≡ refused_after dispatch before }
-{
-    match dispatch {
-        Dispatch::Query => before,
-        Dispatch::OutOfMemory => true,
-        Dispatch::Idle | Dispatch::Planned => false,
     }
 }

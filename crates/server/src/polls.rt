@@ -1,6 +1,6 @@
 //! The polls of a door and of a connection.
 ghost use Rattle.server.specs.World.{moved};
-ghost use Rattle.server.specs.Polling.{AcceptsAt, AcceptsOne, Opens, FeedsOne, ReadsOne, WritesOne};
+ghost use Rattle.server.specs.Polling.{AcceptsAt, Opens, FeedsOne, ReadsOne, WritesOne};
 ghost use Rattle.server.specs.Refinement.{Refines};
 
 use crate::engine::Engine;
@@ -21,17 +21,9 @@ impl<P: Planner + Drop> Engine<P> {
         ensures { Refines (moved W.polled W.notified) (AcceptsAt door) world.old self.old world.new self.new }
     {
         if self.connections.len() < Limits::CONNECTIONS {
-            self.accept(door, world);
-        }
-    }
-
-    /// Polls a door, and opens the connection that comes.
-    #[tactic(auto, using(crate::proofs::Joins::comes))]
-    fn accept<W: Wire + Observer>(&mut self, door: Door, world: &mut W)
-        ensures { Refines (moved W.polled W.notified) (AcceptsOne door) world.old self.old world.new self.new }
-    {
-        if let Progress::Done(id) = world.poll_accept(door) {
-            self.open(door, id, world);
+            if let Progress::Done(id) = world.poll_accept(door) {
+                self.open(door, id, world);
+            }
         }
     }
 

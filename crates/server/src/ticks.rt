@@ -27,12 +27,18 @@ impl<P: Planner + Drop> Engine<P> {
         }
     }
 
-    /// Returns whether a tick is due in a turn at a moment.
+    /// Returns whether a tick is due in a turn at a moment: there was no tick yet, the last tick was [`TICK_TIME`]
+    /// ago or longer, or the last dispatch was refused memory.
     pub fn is_tick_due(&self, moment: Moment) -> bool
         ensures { result ≡ is_due (max moment self.now.core.last) self.now.ticked self.now.undispatched }
     {
         let now = moment.later(self.core.last());
-        is_due(now, self.ticked, self.undispatched)
+        match self.ticked {
+            Some(last) => {
+                now.millis().saturating_sub(last.millis()) >= TICK_TIME || self.undispatched
+            }
+            None => true,
+        }
     }
 
     /// Makes a tick. Returns whether memory was refused.
@@ -41,16 +47,5 @@ impl<P: Planner + Drop> Engine<P> {
     {
         self.ticked = Some(moment.later(self.core.last()));
         self.handle(moment, Event::Tick, notes).refused
-    }
-}
-
-/// Returns whether a tick is due: there was no tick yet, the last tick was [`TICK_TIME`] ago or longer, or the
-/// last dispatch was refused memory.
-fn is_due(now: Moment, ticked: Option<Moment>, undispatched: bool) -> bool
-    ensures { result ≡ is_due now ticked undispatched }
-{
-    match ticked {
-        Some(last) => now.millis().saturating_sub(last.millis()) >= TICK_TIME || undispatched,
-        None => true,
     }
 }
