@@ -381,24 +381,15 @@ impl HttpReader {
         ensures err { OnErr result (self.new ≡ self.old) }
     {
         if self.rest().is_empty() {
-            return self.begin(segment);
+            // The part that was lent isn't moved.
+            self.spare.pass(self.spare.bytes().len());
+            self.spare.append(segment)?;
+            mem::swap(&mut self.unread, &mut self.spare);
+            self.lent = 0;
+            return Ok(());
         }
         self.unread.append(segment)?;
         self.unread.pass(self.lent);
-        self.lent = 0;
-        Ok(())
-    }
-
-    /// Takes bytes where all earlier bytes are read, without moving the part that was lent. The only error is
-    /// out of memory, and leaves the reader as it was.
-    fn begin(&mut self, segment: &[u8]) -> Result<(), AllocError>
-        requires { self.old.rest ≡ [] }
-        ensures ok { OnOk result (self.new ≡ record { part = []; rest = segment.now; awaited = self.old.awaited }) }
-        ensures err { OnErr result (self.new ≡ self.old) }
-    {
-        self.spare.pass(self.spare.bytes().len());
-        self.spare.append(segment)?;
-        mem::swap(&mut self.unread, &mut self.spare);
         self.lent = 0;
         Ok(())
     }

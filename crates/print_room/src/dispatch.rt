@@ -35,27 +35,15 @@ impl PrintRoom {
         ensures keep { OnOk result (AllKeep self.old self.new) }
         ensures err { OnErr result (self.new ≡ self.old) }
     {
-        if self.has_ready_job() {
-            self.plan_and_start(planner, now)?;
-            Ok(true)
-        } else {
-            Ok(false)
+        if !self.has_ready_job() {
+            return Ok(false);
         }
-    }
-
-    /// Plans the ready jobs, of which there are some, and starts the jobs that can start.
-    fn plan_and_start<P: Planner>(&mut self, planner: &mut P, now: Moment) -> Result<(), AllocError>
-        requires later { self.old.last ≤ now }
-        requires ready { is_some_job (ready_of self.old) ≡ true }
-        ensures ok { OnOk result (DispatchedAs now self.old true self.new) }
-        ensures keep { OnOk result (AllKeep self.old self.new) }
-        ensures err { OnErr result (self.new ≡ self.old) }
-    {
         if self.is_still_good(now) {
-            self.start_again(now)
-        } else {
-            self.plan_anew(planner, now)
+            self.start_again(now)?;
+            return Ok(true);
         }
+        self.plan_anew(planner, now)?;
+        Ok(true)
     }
 
     /// Makes a plan of the ready jobs, of which there are some, and starts the jobs that can start.
@@ -146,25 +134,7 @@ impl PrintRoom {
     {
         let begins_none = starts.is_empty();
         self.begin_all(&starts);
-        self.note_begun(starts);
-        if begins_none {
-            self.note_good();
-        }
-    }
-
-    /// Records the jobs that began with the last plan.
-    fn note_begun(&mut self, starts: Vec<Started>)
-        ensures { self.new ≡ record self.old { begun = starts.items } }
-    {
-        self.good_for = None;
         self.begun = starts;
-    }
-
-    /// Records that the last plan is good for the last moment and the room as it is.
-    fn note_good(&mut self)
-        requires { IsStillGood self.old.last self.old }
-        ensures { self.new ≡ self.old }
-    {
-        self.good_for = Some(self.last);
+        self.good_for = if begins_none { Some(self.last) } else { None };
     }
 }

@@ -24,7 +24,7 @@ impl PrintRoom {
         ensures returned { IfErr result (λ refused. refused.job ≡ job) }
         ensures refused { IfErr result (λ refused. IsRefusal (new_refusal self.old.spool job.documents) refused.refusal) }
     {
-        let id = self.spool.submit(job)?;
+        let id = self.spool.submit(job, false)?;
         self.good_for = None;
         self.advance(now);
         Ok(id)
@@ -41,7 +41,10 @@ impl PrintRoom {
         ensures keep { OnOk result (AllKeep self.old self.new) }
         ensures refused { IfErr result (λ refusal. IsRefusal (new_refusal self.old.spool []) refusal) }
     {
-        let id = self.spool.create(job)?;
+        let id = match self.spool.submit(job, true) {
+            Ok(id) => id,
+            Err(refused) => return Err(refused.refusal),
+        };
         self.good_for = None;
         self.advance(now);
         Ok(id)

@@ -1,5 +1,5 @@
 //! New jobs.
-ghost use Rattle.std.specs.Prelude.{◌≡◌, [], IfOk, OnOk, OnErr, IfErr, None, Some, true, false};
+ghost use Rattle.std.specs.Prelude.{◌≡◌, IfOk, OnOk, OnErr, IfErr, None, Some};
 ghost use Rattle.spool.specs.Calls.{is_full, new_refusal, IsRefusal, Takes};
 ghost use Rattle.spool.specs.OnDevice.{AllStay};
 
@@ -31,37 +31,11 @@ impl Spool {
         self.next_id().ok_or(SpoolRefusal::Busy)
     }
 
-    /// Takes a complete job under the next id: it is pending, or held.
+    /// Takes a job under the next id. A complete job is pending, or held; `incoming` indicates that its documents
+    /// are still to come.
     ///
     /// A refusal returns the job. Its causes, in this order: too large, busy, out of memory.
-    pub fn submit(&mut self, new: NewJob) -> Result<JobId, Refused>
-        ensures ok { IfOk result (λ id. Takes self.old new false id self.new) }
-        ensures kept { OnErr result (self.new ≡ self.old) }
-        ensures stay { OnOk result (AllStay self.old.jobs self.new.jobs) }
-        ensures returned { IfErr result (λ refused. refused.job ≡ new) }
-        ensures refused { IfErr result (λ refused. IsRefusal (new_refusal self.old new.documents) refused.refusal) }
-    {
-        self.take(new, false)
-    }
-
-    /// Takes a job whose documents are still to come, under the next id.
-    ///
-    /// The causes of a refusal, in this order: busy, out of memory.
-    pub fn create(&mut self, new: NewJob) -> Result<JobId, SpoolRefusal>
-        requires { new.documents ≡ [] }
-        ensures ok { IfOk result (λ id. Takes self.old new true id self.new) }
-        ensures kept { OnErr result (self.new ≡ self.old) }
-        ensures stay { OnOk result (AllStay self.old.jobs self.new.jobs) }
-        ensures refused { IfErr result (λ refusal. IsRefusal (new_refusal self.old []) refusal) }
-    {
-        match self.take(new, true) {
-            Ok(id) => Ok(id),
-            Err(refused) => Err(refused.refusal),
-        }
-    }
-
-    /// Takes a job. `incoming` indicates whether its documents are still to come.
-    fn take(&mut self, new: NewJob, incoming: bool) -> Result<JobId, Refused>
+    pub fn submit(&mut self, new: NewJob, incoming: bool) -> Result<JobId, Refused>
         ensures ok { IfOk result (λ id. Takes self.old new incoming id self.new) }
         ensures kept { OnErr result (self.new ≡ self.old) }
         ensures stay { OnOk result (AllStay self.old.jobs self.new.jobs) }

@@ -27,9 +27,9 @@ fn new_job(alloc: Global) -> Result<NewJob, AllocError> {
 fn last_job_id(rt: HostRuntime) -> Result<(), Fail> {
     let last = JobId::new(2_147_483_647).ok_or("it is an id")?;
     let mut spool = Spool::new(rt.alloc(), last);
-    let first = spool.submit(new_job(rt.alloc())?).ok();
+    let first = spool.submit(new_job(rt.alloc())?, false).ok();
     assert!(rt; first == Some(last));
-    let is_busy = match spool.submit(new_job(rt.alloc())?) {
+    let is_busy = match spool.submit(new_job(rt.alloc())?, false) {
         Ok(_) => false,
         Err(refused) => matches!(refused.refusal, SpoolRefusal::Busy),
     };
