@@ -33,7 +33,7 @@ use Rattle.connections.specs.Session.{is_queue}
 use Rattle.connections.specs.Entry.{PeerRecord, Entry, with_progress}
 use Rattle.connections.specs.Entry as entry
 use Rattle.connections.specs.Steps.{StepsDevice, StepsHello, silent, step_of}
-use Rattle.connections.specs.Peers.{with_http, with_lpd, with_link, HandlesIpp, HandlesLpdIfAny, HandlesReportIfAny, IsFedIpp, TakesIfItem, NextIpp, NextLpd, NextDevice, NextPeer, IsFedPeer, link_step, Greets, ComesOf}
+use Rattle.connections.specs.Peers.{with_http, with_lpd, with_link, HandlesIpp, HandlesLpdIfAny, HandlesReportIfAny, IsFedIpp, NextIpp, NextLpd, NextDevice, NextPeer, IsFedPeer, link_step, Greets, ComesOf}
 use Rattle.connections.specs.Asking.{IppItemComes as NextItem, LpdItemComes, FindsFault, ReportComes, FindsLinkFault, ItemComes, IsActedOnAs}
 use Rattle.connections.specs.Representation.{FitsIpp, FitsLpd, FitsDevice, FitsPeer}
 
@@ -86,9 +86,8 @@ pub record HasCome (settings : ServerSettings) (e : Entry) (what : Step) (p : Pe
 -- ---- an IPP client
 
 -- where no bytes of a body are unreported, the next item is the next step
-pub next_is_item : (what : Option Step) (t u : IppClientState) → t.unreported ≡ false → TakesIfItem what t u → NextIpp what t u
-next_is_item None t u all_reported takes = (all_reported, takes)
-next_is_item (Some what) t u all_reported takes = inr (all_reported, takes)
+pub item_is_next : (t u : IppClientState) (reader : HttpState) (parsed : HttpItem) (what : Step) → t.unreported ≡ false → Http.Answers t.reader (Some parsed) reader → Http.work reader < Http.work t.reader → HandlesIpp parsed what (with_http reader t) u → NextIpp (Some what) t u
+item_is_next t u reader parsed what all_reported answers falls handles = inr (all_reported, (parsed, reader, answers, falls, handles))
 
 fits_ipp : (read : List ℕ) (parsed : List HttpElement) (closes : Bool) (body : List ℕ) (reader : HttpState) (u : IppClientState) → Http.HasRead read parsed reader → u.reader ≡ reader → u.closes ≡ closes → Body.HasRead body u.body → FitsIpp read (entry.Http parsed closes body) u
 fits_ipp read parsed closes body reader u reaches same is body_read = record {

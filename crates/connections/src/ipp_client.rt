@@ -1,10 +1,8 @@
 //! An IPP client: requests over HTTP, whose bodies are parsed as their parts are read.
-ghost use Rattle.std.specs.Prelude.{◌≡◌, OnOk, OnErr, List, ℕ, length, true};
+ghost use Rattle.std.specs.Prelude.{◌≡◌, OnOk, OnErr, length};
 ghost use Rattle.http_front.specs.Stream.{AwaitsBody};
-ghost use Rattle.ipp_operations.specs.ParsedRequest.{Asks};
-ghost use Rattle.ipp_operations.specs.Reader.{HasRead};
-ghost use Rattle.connections.specs.Steps.{EndsBody, asked_step};
-ghost use Rattle.connections.specs.Peers.{IsNewIpp, IsFedIpp, FeedsBody, NextIpp, TakesIfItem, HandlesIpp, TakesPart, EndsIpp};
+ghost use Rattle.connections.specs.Steps.{asked_step};
+ghost use Rattle.connections.specs.Peers.{IsNewIpp, IsFedIpp, FeedsBody, NextIpp, HandlesIpp, EndsIpp};
 
 use crate::ask::{AllocFailure, Ask, Client};
 use crate::step::{Due, Step};
@@ -83,7 +81,7 @@ impl IppClient {
 
     /// Returns the step for the next item of the stream, if one is whole. Before it comes the step for the bytes
     /// that the body was fed.
-    #[tactic(auto, using(crate::proofs::Readers::next_is_item))]
+    #[tactic(auto, using(crate::proofs::Readers::item_is_next))]
     pub fn next(&mut self) -> Option<Step>
         ensures { NextIpp result self.old self.new }
     {
@@ -91,22 +89,15 @@ impl IppClient {
             self.unreported = false;
             return Some(due(Due::Nothing, false));
         }
-        self.next_item()
-    }
-
-    /// Returns the step for the next item of the stream, if one is whole. It isn't inlined, since most steps of a long
-    /// body only report its bytes.
-    #[inline(never)]
-    fn next_item(&mut self) -> Option<Step>
-        ensures { TakesIfItem result self.old self.new }
-    {
         match self.reader.next_item() {
             Some(item) => Some(self.handle(item)),
             None => None,
         }
     }
 
-    /// Returns the step for an item that was just taken off the stream.
+    /// Returns the step for an item that was just taken off the stream. It isn't inlined, since most steps of a long
+    /// body only report its bytes.
+    #[inline(never)]
     fn handle(&mut self, item: HttpItem) -> Step
         ensures { HandlesIpp item result self.old self.new }
     {
@@ -117,29 +108,33 @@ impl IppClient {
                 due(Due::Nothing, false)
             }
             HttpItem::Continue => due(Due::Continue, false),
-            HttpItem::BodyPart => self.take_part(),
+            HttpItem::BodyPart => match self.body.feed(self.reader.part()) {
+                Ok(()) => due(Due::Nothing, false),
+                Err(_) => Step::Breaks(Ask::Broke(AllocFailure::Input)),
+            },
             HttpItem::BodyEnd => self.end_body(),
             HttpItem::Refuse(refusal) => due(Due::Refusal(refusal), true),
         }
     }
 
-    /// Feeds the last part of the body to its parser.
-    fn take_part(&mut self) -> Step
-        ensures { TakesPart result self.old self.new }
-    {
-        match self.body.feed(self.reader.part()) {
-            Ok(()) => due(Due::Nothing, false),
-            Err(_) => Step::Breaks(Ask::Broke(AllocFailure::Input)),
-        }
-    }
-
-    /// Returns the step for the body, which is whole now.
+    /// Returns the step for the body, which is whole now. A body under 8 bytes is answered 400, and the connection
+    /// drains (RFC 8010, section 3.1.1).
     fn end_body(&mut self) -> Step
         ensures { EndsIpp result self.old self.new }
     {
+        let closes = self.closes;
         let next = RequestParser::new(self.alloc);
         let mut body = mem::replace(&mut self.body, next);
-        whole_step(self.closes, &mut body)
+        let Some(request) = body.request_id() else {
+            return due(Due::Refusal(HttpRejection::BadRequest), true);
+        };
+        match body.finish() {
+            Ok(asked) => asked_step(closes, asked),
+            Err(_) => Step::Asks {
+                ask: Ask::Unread(request),
+                last: closes,
+            },
+        }
     }
 }
 
@@ -148,23 +143,6 @@ fn due(due: Due, last: bool) -> Step
     ensures { result ≡ Step.Due due last }
 {
     Step::Due { due, last }
-}
-
-/// Returns the step for a whole body. A body under 8 bytes is answered 400, and the connection drains (RFC
-/// 8010, section 3.1.1).
-fn whole_step(closes: bool, body: &mut RequestParser) -> Step
-    ensures { (bytes : List ℕ) → HasRead bytes body.old → EndsBody closes bytes result }
-{
-    let Some(request) = body.request_id() else {
-        return due(Due::Refusal(HttpRejection::BadRequest), true);
-    };
-    match body.finish() {
-        Ok(asked) => asked_step(closes, asked),
-        Err(_) => Step::Asks {
-            ask: Ask::Unread(request),
-            last: closes,
-        },
-    }
 }
 
 /// The step for a parsed request.

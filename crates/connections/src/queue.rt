@@ -201,7 +201,15 @@ impl SendQueue {
         if self.text.is_empty() {
             return Offered::Nothing;
         }
-        offer_text(&mut self.text, id, wire)
+        match wire.poll_write(id, &[IoSlice::new(&self.text)]) {
+            Progress::Done(count) => {
+                drop_taken(&mut self.text, count);
+                Offered::Done(count)
+            }
+            Progress::Waiting => Offered::Waiting,
+            Progress::End => Offered::Ended,
+            Progress::Fault => Offered::Ended,
+        }
     }
 }
 
@@ -235,23 +243,6 @@ fn pass(shared: &mut Vec<Rest>, count: usize)
         shared[0].pass(count);
     } else {
         shared.remove(0);
-    }
-}
-
-/// Offers the text to the wire. The text's room stays.
-fn offer_text<W: Wire>(text: &mut Vec<u8>, id: WireId, wire: &mut W) -> Offered
-    requires { 0 < length text.old.items }
-    ensures offers { OffersPrefix W.polled id text.old.items wire.old result text.new.items wire.new }
-    ensures capacity { vec_capacity text.new ≡ vec_capacity text.old }
-{
-    match wire.poll_write(id, &[IoSlice::new(text)]) {
-        Progress::Done(count) => {
-            drop_taken(text, count);
-            Offered::Done(count)
-        }
-        Progress::Waiting => Offered::Waiting,
-        Progress::End => Offered::Ended,
-        Progress::Fault => Offered::Ended,
     }
 }
 

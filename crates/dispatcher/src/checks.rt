@@ -4,10 +4,10 @@
 ghost use Rattle.std.specs.Prelude.{◌≡◌, Ok, Err, MatchResult, option_map};
 ghost use Rattle.std.specs.Option.{option_copied, option_and_then};
 ghost use Rattle.spool.specs.Jobs.{job_at};
-ghost use Rattle.dispatcher.specs.Checks.{by_operator, checked_format, format_of, is_compressed, named_job, named_printer, printer_of_job, refused, room_for, status_of, unsupported_attributes};
+ghost use Rattle.dispatcher.specs.Checks.{by_operator, checked_format, format_of, is_compressed, named_job, named_printer, printer_of_job, refused, status_of, unsupported_attributes};
 ghost use Rattle.dispatcher.specs.Target.{if_sent_to, job_of, printer_of};
 
-use base_types::{JobId, Limits, PrinterId, Text};
+use base_types::{JobId, PrinterId, Text};
 use events::{DocumentForm, JobTarget, Status, Target};
 use job_objects::Job;
 use job_template::RequestAttributes;
@@ -214,17 +214,4 @@ pub(crate) fn unsupported_attributes(
         });
     }
     Ok(unsupported)
-}
-
-/// Checks that there is room for a job of this many octets.
-pub(crate) fn room_for(alloc: Global, room: &PrintRoom, octets: usize) -> Result<(), Rejection>
-    ensures { result ≡ room_for octets room.now }
-{
-    if octets > Limits::JOB_OCTETS {
-        return Err(refused(alloc, Status::TooLarge));
-    }
-    if room.spool().is_full() {
-        return Err(refused(alloc, Status::Busy));
-    }
-    Ok(())
 }

@@ -2,7 +2,7 @@
 //! job is taken.
 ghost use Rattle.std.specs.Prelude.{◌≡◌, ◌≤◌, ◌∷◌, [], IfOk, IsOk, IsErr, OnErr, None};
 ghost use Rattle.spool.specs.Calls.{new_refusal};
-ghost use Rattle.dispatcher.specs.PrintJob.{PrintsJob, TakesJob, checked_of};
+ghost use Rattle.dispatcher.specs.PrintJob.{PrintsJob, checked_of};
 
 use crate::answering::{refuse, taken_with};
 use crate::checks::{Rejection, checked_format, named_printer};
@@ -13,7 +13,8 @@ use octets::{Document, Octets};
 use print_room::PrintRoom;
 use std::alloc::{AllocError, Global};
 
-/// Takes the job of a Print-Job request, or responds with the rejection. The only error is out of memory.
+/// Takes the job of a Print-Job request, or responds with the rejection. The response to a job that is taken has its
+/// URI, id and state. The only error is out of memory.
 pub(crate) fn print_job(
     alloc: Global,
     room: &mut PrintRoom,
@@ -25,25 +26,10 @@ pub(crate) fn print_job(
     ensures err { OnErr result (room.new ≡ room.old) }
     ensures light { IsErr (checked_of request now room.old) → IsOk result }
 {
-    match checked_request(alloc, room, request, now)? {
-        Ok(accepted) => take(alloc, room, accepted, now),
-        Err(refusal) => Ok(refuse(alloc, room, refusal, now)),
-    }
-}
-
-/// Takes a job that passed the checks. The response has its URI, id and state.
-fn take(
-    alloc: Global,
-    room: &mut PrintRoom,
-    accepted: Accepted,
-    now: Moment,
-) -> Result<Effects, AllocError>
-    requires later { room.old.last ≤ now }
-    requires free { new_refusal room.old.spool accepted.job.documents ≡ None }
-    ensures ok { IfOk result (λ effects. TakesJob now room.old accepted effects room.new) }
-    ensures err { OnErr result (room.new ≡ room.old) }
-{
-    let Accepted { job, unsupported } = accepted;
+    let Accepted { job, unsupported } = match checked_request(alloc, room, request, now)? {
+        Ok(accepted) => accepted,
+        Err(refusal) => return Ok(refuse(alloc, room, refusal, now)),
+    };
     let status = taken_with(&unsupported);
     let groups = groups_of(alloc, room, &job, false)?;
     match room.submit(job, now) {

@@ -3,9 +3,9 @@ ghost use Rattle.std.specs.Prelude.{◌≡◌, ◌≤◌, ◌∷◌, [], IfOk, I
 ghost use Rattle.spool.specs.Calls.{is_full, new_refusal};
 ghost use Rattle.dispatcher.specs.Submission.{checked_job, group_of};
 
-use crate::checks::{NamedPrinter, Rejection, room_for, unsupported_attributes};
+use crate::checks::{NamedPrinter, Rejection, refused, unsupported_attributes};
 use base_types::{Limits, Moment};
-use events::{JobCreation, ResponseGroups};
+use events::{JobCreation, ResponseGroups, Status};
 use job_objects::{JobState, waiting_reasons};
 use job_template::{RequestAttributes, medium_of, template_of};
 use print_room::PrintRoom;
@@ -50,8 +50,11 @@ pub(crate) fn checked_job(
         Ok(unsupported) => unsupported,
         Err(refusal) => return Ok(Err(refusal)),
     };
-    if let Err(refusal) = room_for(alloc, room, octets) {
-        return Ok(Err(refusal));
+    if octets > Limits::JOB_OCTETS {
+        return Ok(Err(refused(alloc, Status::TooLarge)));
+    }
+    if room.spool().is_full() {
+        return Ok(Err(refused(alloc, Status::Busy)));
     }
     let media = medium.copied(alloc)?;
     let job = NewJob {

@@ -3,7 +3,7 @@ ghost use Rattle.std.specs.Prelude.{◌≡◌, IfOk, OnErr};
 ghost use Rattle.ipp_codec.specs.Grammar.{IsGroup, IsMessage};
 ghost use Rattle.ipp_codec.specs.Views.{group_shown, message_shown};
 ghost use Rattle.ipp_operations.specs.Request.{job_attributes};
-ghost use Rattle.ipp_operations.specs.Event.{is_complete, checked_event, event_of_group, event_of};
+ghost use Rattle.ipp_operations.specs.Event.{is_complete, event_of_group, event_of};
 
 use crate::attributes::{are_tagged, has};
 use crate::job_creation::{asked_job_of, print_job_of, validate_job_of};
@@ -29,35 +29,19 @@ pub(crate) fn event_of(
     ensures event { IfOk result (λ event. event ≡ event_of operation (message_shown message.now) document.old) }
     ensures err { OnErr result (document.new ≡ document.old) }
 {
-    match operation_group(message) {
-        Some(group) => checked_event(alloc, operation, message, &group, document),
-        None => Ok(Err(Status::BadRequest)),
-    }
-}
-
-/// The event of a message with this operation group.
-fn checked_event(
-    alloc: Global,
-    operation: Operation,
-    message: &MessageView<'_>,
-    group: &GroupView<'_>,
-    document: &mut Pages,
-) -> Result<Result<Event, Status>, AllocError>
-    requires message { IsMessage (message_shown message.now) }
-    requires group { IsGroup (group_shown group.now) }
-    ensures event { IfOk result (λ event. event ≡ checked_event operation (group_shown group.now) (job_attributes (message_shown message.now)) document.old) }
-    ensures err { OnErr result (document.new ≡ document.old) }
-{
-    if !is_utf8(group) {
+    let Some(group) = operation_group(message) else {
+        return Ok(Err(Status::BadRequest));
+    };
+    if !is_utf8(&group) {
         return Ok(Err(Status::CharsetNotSupported));
     }
-    if !are_tagged(group, attributes_read(operation)) {
+    if !are_tagged(&group, attributes_read(operation)) {
         return Ok(Err(Status::BadRequest));
     }
-    if !is_complete(operation, group) {
+    if !is_complete(operation, &group) {
         return Ok(Err(Status::BadRequest));
     }
-    Ok(Ok(event_of_group(alloc, operation, message, group, document)?))
+    Ok(Ok(event_of_group(alloc, operation, message, &group, document)?))
 }
 
 /// Returns whether a request has the attributes that it must have: those of its job or its printer, and in a

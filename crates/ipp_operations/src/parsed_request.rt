@@ -1,10 +1,10 @@
 //! The parsed request of a body.
 ghost use Rattle.std.specs.Prelude.{◌≡◌, IfOk, OnErr};
 ghost use Rattle.ipp_operations.specs.ParsedRequest.{Asks, status_of};
-ghost use Rattle.ipp_operations.specs.Reader.{WasFed, AsksOf, AsksUnderOf, AsksByOf, RequestsOf};
+ghost use Rattle.ipp_operations.specs.Reader.{WasFed, AsksOf, RequestsOf};
 
 use crate::event::event_of;
-use crate::header::{Header, header_of, operation_of};
+use crate::header::{header_of, operation_of};
 use crate::request_parser::RequestParser;
 use events::{Event, Status};
 use ipp_codec::{CodecFault, Decoder};
@@ -44,44 +44,16 @@ pub(crate) fn parse_header(
     ensures asked { IfOk result (λ asked. AsksOf decoder.now document.old asked) }
     ensures err { OnErr result (document.new ≡ document.old) }
 {
-    match header_of(decoder.head()) {
-        Some(header) => parse_operation(alloc, header, decoder, document),
-        None => Ok(ParsedRequest::TooShort),
-    }
-}
-
-/// The parsed request of a body with this header.
-fn parse_operation(
-    alloc: Global,
-    header: Header,
-    decoder: &Decoder,
-    document: &mut Pages,
-) -> Result<ParsedRequest, AllocError>
-    requires { WasFed decoder.now }
-    ensures asked { IfOk result (λ asked. AsksUnderOf header decoder.now document.old asked) }
-    ensures err { OnErr result (document.new ≡ document.old) }
-{
-    match operation_of(header) {
-        Ok(operation) => parse_event(alloc, header.request_id, operation, decoder, document),
-        Err(status) => Ok(ParsedRequest::Refused(status, header.request_id)),
-    }
-}
-
-/// The parsed request of a body with an operation, under this request-id.
-fn parse_event(
-    alloc: Global,
-    request_id: u32,
-    operation: Operation,
-    decoder: &Decoder,
-    document: &mut Pages,
-) -> Result<ParsedRequest, AllocError>
-    requires { WasFed decoder.now }
-    ensures asked { IfOk result (λ asked. AsksByOf operation request_id decoder.now document.old asked) }
-    ensures err { OnErr result (document.new ≡ document.old) }
-{
+    let Some(header) = header_of(decoder.head()) else {
+        return Ok(ParsedRequest::TooShort);
+    };
+    let operation = match operation_of(header) {
+        Ok(operation) => operation,
+        Err(status) => return Ok(ParsedRequest::Refused(status, header.request_id)),
+    };
     match decode_event(alloc, operation, decoder, document)? {
-        Ok(event) => Ok(ParsedRequest::Event(request_id, event)),
-        Err(status) => Ok(ParsedRequest::Refused(status, request_id)),
+        Ok(event) => Ok(ParsedRequest::Event(header.request_id, event)),
+        Err(status) => Ok(ParsedRequest::Refused(status, header.request_id)),
     }
 }
 

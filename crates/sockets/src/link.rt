@@ -121,7 +121,9 @@ impl Link {
             return Ok(self.ahead.take(buffer));
         }
         if !self.much || !self.ahead.has_room() {
-            return self.read_segment(buffer);
+            let read = self.stream.read(buffer);
+            self.record_read(&read, buffer.len());
+            return read;
         }
         self.read_ahead()?;
         Ok(self.ahead.take(buffer))
@@ -132,15 +134,6 @@ impl Link {
         if self.ahead.is_empty() {
             self.ahead.release();
         }
-    }
-
-    /// Reads from the socket into `buffer`.
-    fn read_segment(&mut self, buffer: &mut [u8]) -> io::Result<usize>
-        ensures { ReadsAtMost result buffer.new }
-    {
-        let read = self.stream.read(buffer);
-        self.record_read(&read, buffer.len());
-        read
     }
 
     /// Reads from the socket into the buffer for reading ahead.
