@@ -23,7 +23,7 @@ use slab::Slab;
 use spool::SpooledJob;
 use std::alloc::{AllocError, Global};
 use std::marker::Model;
-use wires::Wire;
+use wires::{Door, Wire};
 
 /// The engine of a server: its core and its connections.
 #[derive(Drop)]
@@ -89,7 +89,15 @@ impl<P: Planner + Drop> Engine<P> {
         ensures { RefinesTurn (both W.polled N.notified) moment (wire.old, notes.old) self.old (wire.new, notes.new) self.new }
     {
         let mut world = World { wire, notes };
-        self.turn_once(moment, &mut world);
+        self.close_broken(moment, &mut world);
+        self.tick_if_due(moment, &mut world);
+        self.accept_at(Door::Ipp, &mut world);
+        self.accept_at(Door::Lpd, &mut world);
+        self.accept_at(Door::Devices, &mut world);
+        let keys = self.keys();
+        self.read_all(moment, keys, &mut world);
+        self.write_all(moment, keys, &mut world);
+        self.end_all(moment, keys, &mut world);
     }
 
     /// Exchanges the planner for another.

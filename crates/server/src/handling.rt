@@ -34,7 +34,8 @@ impl<P: Planner + Drop> Engine<P> {
     ) -> EventResult
         ensures { Reports N.notified (Happens moment event result.handled) notes.old self.old notes.new self.new result.refused }
     {
-        let handled = self.decide(moment, event, notes);
+        let handled = self.core.handle(Timed { event, moment }, notes);
+        self.undispatched = undispatched_after(&handled, self.undispatched);
         let undispatched = is_undispatched(&handled);
         let unsent = self.order(&handled, notes);
         EventResult {
@@ -43,35 +44,14 @@ impl<P: Planner + Drop> Engine<P> {
         }
     }
 
-    /// Handles an event by the core, and notifies the observer.
-    fn decide<N: Observer>(
-        &mut self,
-        moment: Moment,
-        event: Event,
-        notes: &mut N,
-    ) -> Option<Handled>
-        ensures { Reports N.notified (Decides moment event result) notes.old self.old notes.new self.new (is_undispatched result) }
-    {
-        let handled = self.core.handle(Timed { event, moment }, notes);
-        self.undispatched = undispatched_after(&handled, self.undispatched);
-        handled
-    }
-
-    /// Enqueues the bytes of an event for devices, unless the event was dropped. Returns whether memory was refused.
+    /// Enqueues the lines of an event's cancels, and then the bytes of the jobs that its dispatch began; nothing for an
+    /// event that was dropped. Returns whether memory was refused.
     fn order<N: Observer>(&mut self, handled: &Option<Handled>, notes: &mut N) -> bool
         ensures { Reports N.notified (Orders handled.now) notes.old self.old notes.new self.new result }
     {
-        match handled {
-            Some(handled) => self.send_and_start(handled, notes),
-            None => false,
-        }
-    }
-
-    /// Enqueues the lines of an event's cancels, and then the bytes of the jobs that its dispatch began. Returns
-    /// whether memory was refused.
-    fn send_and_start<N: Observer>(&mut self, handled: &Handled, notes: &mut N) -> bool
-        ensures { Reports N.notified (Orders (Some handled.now)) notes.old self.old notes.new self.new result }
-    {
+        let Some(handled) = handled else {
+            return false;
+        };
         let unsent = self.send_all(&handled.effects.cancels, notes);
         match handled.dispatch {
             Dispatch::Planned => unsent | start_all(&self.core, &mut self.connections, notes),

@@ -1,9 +1,8 @@
-//! The order of a turn.
+//! The reads, the writes and the closings of a turn.
 ghost use Rattle.std.specs.Prelude.{◌≡◌, ◌≤◌, ℕ, None};
 ghost use Rattle.server.specs.World.{moved};
 ghost use Rattle.server.specs.Rel.{Each};
 ghost use Rattle.server.specs.Polling.{ReadsOne, WritesOne, EndsOne};
-ghost use Rattle.server.specs.Turn.{Round, Turn};
 ghost use Rattle.server.specs.State.{slot_at};
 ghost use Rattle.server.specs.Refinement.{Refines};
 
@@ -13,33 +12,10 @@ use base_types::Moment;
 use connections::table::keys;
 use dispatcher::Observer;
 use plan_prices::Planner;
-use wires::{Door, Wire};
+use wires::Wire;
 
 /// The parts of a turn.
 impl<P: Planner + Drop> Engine<P> {
-    /// Makes one turn.
-    pub(crate) fn turn_once<W: Wire + Observer>(&mut self, moment: Moment, world: &mut W)
-        ensures { Refines (moved W.polled W.notified) (Turn moment) world.old self.old world.new self.new }
-    {
-        self.close_broken(moment, world);
-        self.tick_if_due(moment, world);
-        self.accept_at(Door::Ipp, world);
-        self.accept_at(Door::Lpd, world);
-        self.accept_at(Door::Devices, world);
-        self.round(moment, world);
-    }
-
-    /// Reads all open connections, then writes on them, and then closes those that are done.
-    #[tactic(auto, using(crate::proofs::Joins::rounds))]
-    fn round<W: Wire + Observer>(&mut self, moment: Moment, world: &mut W)
-        ensures { Refines (moved W.polled W.notified) (Round moment) world.old self.old world.new self.new }
-    {
-        let keys = self.keys();
-        self.read_all(moment, keys, world);
-        self.write_all(moment, keys, world);
-        self.end_all(moment, keys, world);
-    }
-
     /// One more than the greatest key of a connection. No connection is open under this key or a greater one.
     pub(crate) fn keys(&self) -> usize
         ensures { (key : ℕ) → result ≤ key → slot_at self.now key ≡ None }
@@ -48,7 +24,7 @@ impl<P: Planner + Drop> Engine<P> {
     }
 
     /// Reads each connection once. All reads use the engine's buffer.
-    fn read_all<W: Wire + Observer>(&mut self, moment: Moment, keys: usize, world: &mut W)
+    pub(crate) fn read_all<W: Wire + Observer>(&mut self, moment: Moment, keys: usize, world: &mut W)
         ensures { Refines (moved W.polled W.notified) (Each keys (ReadsOne moment)) world.old self.old world.new self.new }
     {
         match self.segment.take() {
@@ -78,7 +54,7 @@ impl<P: Planner + Drop> Engine<P> {
 
     /// Writes once on each connection with waiting bytes.
     #[tactic(auto, using(crate::proofs::Joins::next_more))]
-    fn write_all<W: Wire + Observer>(&mut self, moment: Moment, keys: usize, world: &mut W)
+    pub(crate) fn write_all<W: Wire + Observer>(&mut self, moment: Moment, keys: usize, world: &mut W)
         ensures { Refines (moved W.polled W.notified) (Each keys (WritesOne moment)) world.old self.old world.new self.new }
     {
         for key in 0..keys {
@@ -88,7 +64,7 @@ impl<P: Planner + Drop> Engine<P> {
 
     /// Closes each connection that is done.
     #[tactic(auto, using(crate::proofs::Joins::next_more))]
-    fn end_all<W: Wire + Observer>(&mut self, moment: Moment, keys: usize, world: &mut W)
+    pub(crate) fn end_all<W: Wire + Observer>(&mut self, moment: Moment, keys: usize, world: &mut W)
         ensures { Refines (moved W.polled W.notified) (Each keys (EndsOne moment)) world.old self.old world.new self.new }
     {
         for key in 0..keys {

@@ -1,7 +1,0 @@
-use Rattle.std.proofs.Common.{refl}
-use Rattle.server.proofs.Steps.{reporting_from}
-use Rattle.server.proofs.DeviceOrders.{decides}
-use Rattle.server.proofs.engine.Engine.decide.Goals as goal
-
-pub returns : goal.returns
-returns g c = reporting_from _ _ _ _ _ _ _ _ _ c.self.view_is refl (decides _ _ _ _ _ _ c.args.moment c.args.event _ c.handle-handled.ensures c.undispatched_after-self-inside.ensures)
