@@ -1,7 +1,6 @@
 //! An IPP client: requests over HTTP, whose bodies are parsed as their parts are read.
 ghost use Rattle.std.specs.Prelude.{◌≡◌, OnOk, OnErr, length};
 ghost use Rattle.http_front.specs.Stream.{AwaitsBody};
-ghost use Rattle.connections.specs.Steps.{asked_step};
 ghost use Rattle.connections.specs.Peers.{IsNewIpp, IsFedIpp, FeedsBody, NextIpp, HandlesIpp, EndsIpp};
 
 use crate::ask::{AllocFailure, Ask, Client};
@@ -128,10 +127,24 @@ impl IppClient {
         let Some(request) = body.request_id() else {
             return due(Due::Refusal(HttpRejection::BadRequest), true);
         };
-        match body.finish() {
-            Ok(asked) => asked_step(closes, asked),
-            Err(_) => Step::Asks {
+        let Ok(asked) = body.finish() else {
+            return Step::Asks {
                 ask: Ask::Unread(request),
+                last: closes,
+            };
+        };
+        match asked {
+            ParsedRequest::TooShort => due(Due::Refusal(HttpRejection::BadRequest), true),
+            ParsedRequest::Refused(status, request) => Step::Due {
+                due: Due::Status {
+                    closes,
+                    status,
+                    request,
+                },
+                last: closes,
+            },
+            ParsedRequest::Event(request, event) => Step::Asks {
+                ask: Ask::Event(Client::Ipp(request), event),
                 last: closes,
             },
         }
@@ -143,25 +156,4 @@ fn due(due: Due, last: bool) -> Step
     ensures { result ≡ Step.Due due last }
 {
     Step::Due { due, last }
-}
-
-/// The step for a parsed request.
-fn asked_step(closes: bool, asked: ParsedRequest) -> Step
-    ensures { result ≡ asked_step closes asked }
-{
-    match asked {
-        ParsedRequest::TooShort => due(Due::Refusal(HttpRejection::BadRequest), true),
-        ParsedRequest::Refused(status, request) => Step::Due {
-            due: Due::Status {
-                closes,
-                status,
-                request,
-            },
-            last: closes,
-        },
-        ParsedRequest::Event(request, event) => Step::Asks {
-            ask: Ask::Event(Client::Ipp(request), event),
-            last: closes,
-        },
-    }
 }
