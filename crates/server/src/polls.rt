@@ -1,6 +1,6 @@
 //! The polls of a door and of a connection.
 ghost use Rattle.server.specs.World.{moved};
-ghost use Rattle.server.specs.Polling.{AcceptsAt, Opens, FeedsOne, ReadsOne, WritesOne};
+ghost use Rattle.server.specs.Polling.{AcceptsAt, Opens, ReadsOne, WritesOne};
 ghost use Rattle.server.specs.Refinement.{Refines};
 
 use crate::engine::Engine;
@@ -53,25 +53,13 @@ impl<P: Planner + Drop> Engine<P> {
         let Some(id) = to_read(&self.connections, key) else {
             return;
         };
-        match world.poll_read(id, segment) {
-            Progress::Done(count) => self.take(moment, key, &segment[..count], world),
-            Progress::Waiting => {}
-            Progress::End => end(&mut self.connections, key),
-            Progress::Fault => self.fail(moment, key, world),
-        }
-    }
-
-    /// Feeds a segment that was read to the connection under a key, and acts on what the connection asks.
-    fn take<W: Wire + Observer>(
-        &mut self,
-        moment: Moment,
-        key: usize,
-        segment: &[u8],
-        world: &mut W,
-    )
-        ensures { Refines (moved W.polled W.notified) (FeedsOne moment key segment.now) world.old self.old world.new self.new }
-    {
-        let Some(fed) = feed(&mut self.connections, key, segment) else {
+        let count = match world.poll_read(id, segment) {
+            Progress::Done(count) => count,
+            Progress::Waiting => return,
+            Progress::End => return end(&mut self.connections, key),
+            Progress::Fault => return self.fail(moment, key, world),
+        };
+        let Some(fed) = feed(&mut self.connections, key, &segment[..count]) else {
             return;
         };
         match fed {
