@@ -1,7 +1,7 @@
 //! The parsed request of a body.
 ghost use Rattle.std.specs.Prelude.{◌≡◌, IfOk, OnErr};
 ghost use Rattle.ipp_operations.specs.ParsedRequest.{Asks, status_of};
-ghost use Rattle.ipp_operations.specs.Reader.{WasFed, AsksOf, RequestsOf};
+ghost use Rattle.ipp_operations.specs.Reader.{WasFed, AsksOf};
 
 use crate::event::event_of;
 use crate::header::{header_of, operation_of};
@@ -9,7 +9,6 @@ use crate::request_parser::RequestParser;
 use events::{Event, Status};
 use ipp_codec::{CodecFault, Decoder};
 use octets::Pages;
-use printer_objects::Operation;
 use std::alloc::{AllocError, Global};
 
 /// A parsed IPP body.
@@ -51,26 +50,13 @@ pub(crate) fn parse_header(
         Ok(operation) => operation,
         Err(status) => return Ok(ParsedRequest::Refused(status, header.request_id)),
     };
-    match decode_event(alloc, operation, decoder, document)? {
+    let message = match decoder.finish() {
+        Ok((message, _)) => message,
+        Err(fault) => return Ok(ParsedRequest::Refused(status_of(fault), header.request_id)),
+    };
+    match event_of(alloc, operation, &message, document)? {
         Ok(event) => Ok(ParsedRequest::Event(header.request_id, event)),
         Err(status) => Ok(ParsedRequest::Refused(status, header.request_id)),
-    }
-}
-
-/// The event of a body, or the status of the first check after the header that fails.
-fn decode_event(
-    alloc: Global,
-    operation: Operation,
-    decoder: &Decoder,
-    document: &mut Pages,
-) -> Result<Result<Event, Status>, AllocError>
-    requires { WasFed decoder.now }
-    ensures requests { IfOk result (λ event. RequestsOf operation decoder.now document.old event) }
-    ensures err { OnErr result (document.new ≡ document.old) }
-{
-    match decoder.finish() {
-        Ok((message, _)) => event_of(alloc, operation, &message, document),
-        Err(fault) => Ok(Err(status_of(fault))),
     }
 }
 

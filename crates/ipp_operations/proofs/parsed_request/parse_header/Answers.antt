@@ -1,9 +1,10 @@
-use Rattle.std.proofs.Common.{Result, subst, sym, ap, ◌∙◌}
+use Rattle.std.proofs.Common.{Result, Err, subst, sym, ap, ◌∙◌}
+use Rattle.ipp_codec.specs.Views.{message_shown}
 use Rattle.events.specs.declared.event.Event.{Event}
 use Rattle.events.specs.declared.status.Status.{Status}
-use Rattle.ipp_operations.specs.ParsedRequest.{header_of, answered}
-use Rattle.ipp_operations.specs.Reader.{AsksByOf}
-use Rattle.ipp_operations.proofs.BodyInParts.{asks_under, asks_by, asks_none, asks_event, asks_short}
+use Rattle.ipp_operations.specs.ParsedRequest.{header_of, answered, Requests}
+use Rattle.ipp_operations.specs.Reader.{AsksByOf, RequestsOf}
+use Rattle.ipp_operations.proofs.BodyInParts.{asks_under, asks_by, asks_none, asks_event, asks_short, found_requests, fault_requests}
 use Rattle.ipp_operations.proofs.parsed_request.parse_header.Goals as goal
 
 pub returns-in_default-clause-asked : goal.returns-in_default-clause-asked
@@ -14,20 +15,39 @@ returns-in-Err-clause-asked c =
     asks_under c.args.decoder.now c.args.document.now c.in-Some.header _ (ap header_of (sym c.head.ensures) ∙ sym c.header_of.ensures ∙ c.in-Some.is)
     (asks_none c.args.decoder.now c.args.document.now c.in-Some.header c.in-Err.status (sym c.operation_of.ensures ∙ c.in-Err.is))
 
+pub returns-in-Err-finish-clause-asked : goal.returns-in-Err-finish-clause-asked
+returns-in-Err-finish-clause-asked c =
+    let decoder = c.args.decoder.now in
+    let id = c.in-Some.header.request_id in
+    let requests : RequestsOf c.in-Ok.operation decoder c.args.document.now (Err c.status_of.result) = λ bytes reaches holds.
+    subst (λ (s : Status). Requests c.in-Ok.operation bytes (Err s)) (sym c.status_of.ensures) (fault_requests c.in-Ok.operation c.in-Err-finish.fault bytes ((c.in-Err-finish.ensures {u = tt}).decoded bytes reaches)) in
+    asks_under decoder c.args.document.now c.in-Some.header _ (ap header_of (sym c.head.ensures) ∙ sym c.header_of.ensures ∙ c.in-Some.is)
+    (asks_by decoder c.args.document.now c.in-Some.header c.in-Ok.operation _ (sym c.operation_of.ensures ∙ c.in-Ok.is)
+    (asks_event decoder c.args.document.now c.in-Ok.operation id (Err c.status_of.result) requests))
+
 pub returns-in-Ok-2-clause-asked : goal.returns-in-Ok-2-clause-asked
 returns-in-Ok-2-clause-asked c =
     let decoder = c.args.decoder.now in
     let id = c.in-Some.header.request_id in
+    let found = c.in-Ok-finish.ensures {u = tt} in
+    let requests : RequestsOf c.in-Ok.operation decoder c.args.document.now c.in_ok-event.field-0 = λ bytes reaches holds.
+    found_requests c.in-Ok.operation (message_shown c.in-Ok-finish.message) c.in-Ok-finish.field-0-1 bytes c.args.document.now decoder c.in_ok-event.field-0 (found.decoded bytes reaches) found.length found.whole holds ((c.in_ok-event.ensures {u = tt}).event) in
     asks_under decoder c.args.document.now c.in-Some.header _ (ap header_of (sym c.head.ensures) ∙ sym c.header_of.ensures ∙ c.in-Some.is)
     (asks_by decoder c.args.document.now c.in-Some.header c.in-Ok.operation _ (sym c.operation_of.ensures ∙ c.in-Ok.is)
     (subst (λ (r : Result Event Status). AsksByOf c.in-Ok.operation id decoder c.args.document.now (answered id r)) c.in-Ok-2.is
-    (asks_event decoder c.args.document.now c.in-Ok.operation id c.in_ok-event.field-0 ((c.in_ok-event.ensures {u = tt}).requests))))
+    (asks_event decoder c.args.document.now c.in-Ok.operation id c.in_ok-event.field-0 requests)))
 
 pub returns-in-Err-2-clause-asked : goal.returns-in-Err-2-clause-asked
 returns-in-Err-2-clause-asked c =
     let decoder = c.args.decoder.now in
     let id = c.in-Some.header.request_id in
+    let found = c.in-Ok-finish.ensures {u = tt} in
+    let requests : RequestsOf c.in-Ok.operation decoder c.args.document.now c.in_ok-event.field-0 = λ bytes reaches holds.
+    found_requests c.in-Ok.operation (message_shown c.in-Ok-finish.message) c.in-Ok-finish.field-0-1 bytes c.args.document.now decoder c.in_ok-event.field-0 (found.decoded bytes reaches) found.length found.whole holds ((c.in_ok-event.ensures {u = tt}).event) in
     asks_under decoder c.args.document.now c.in-Some.header _ (ap header_of (sym c.head.ensures) ∙ sym c.header_of.ensures ∙ c.in-Some.is)
     (asks_by decoder c.args.document.now c.in-Some.header c.in-Ok.operation _ (sym c.operation_of.ensures ∙ c.in-Ok.is)
     (subst (λ (r : Result Event Status). AsksByOf c.in-Ok.operation id decoder c.args.document.now (answered id r)) c.in-Err-2.is
-    (asks_event decoder c.args.document.now c.in-Ok.operation id c.in_ok-event.field-0 ((c.in_ok-event.ensures {u = tt}).requests))))
+    (asks_event decoder c.args.document.now c.in-Ok.operation id c.in_ok-event.field-0 requests)))
+
+pub event_of-requires : goal.event_of-requires
+event_of-requires c = ((c.in-Ok-finish.ensures {u = tt}).decoded c.requires.0 c.requires.1).2.0
