@@ -1,6 +1,7 @@
 -- The asks of connections, and the happenings that they bring.
 use Rattle.std.proofs.Common.{◌≡◌, ◌<◌, arith, ℕ, [], ◌∷◌, refl, sym, ◌∙◌, ap, subst, Option, Some, None, inl, inr}
 use Rattle.std.specs.Prelude.{slice_index_or}
+use Rattle.settings_file.specs.Settings.{ServerSettings}
 use Rattle.print_room.specs.State.{State}
 use Rattle.wires.specs.Poll.{Poll}
 use Rattle.dispatcher.specs.Notes.{Note}
@@ -68,6 +69,11 @@ asks_by a slots key None (inl none) = record {
 }
 asks_by a slots key None (inr on) = nothing_asked a slots key on
 asks_by a slots key (Some asked) on = something_asked a slots key asked on
+
+-- the same for an equal state before, by the settings that were read from it
+pub asked_from : (a given : EngineState) (settings : ServerSettings) (slots : Slots) (key : ℕ) (what : Option ConnectionAsk) → a ≡ given → settings ≡ a.core.settings → AsksAt settings key what a.slots slots → AsksBy key what given (with_slots slots a)
+asked_from a given settings slots key what is same asked =
+    subst (λ (e : EngineState). AsksBy key what e (with_slots slots a)) is (asks_by a slots key what (subst (λ (s : ServerSettings). AsksAt s key what a.slots slots) same asked))
 
 -- ---- the happenings of an ask
 

@@ -3,7 +3,7 @@ ghost use Rattle.std.specs.Prelude.{◌≡◌};
 ghost use Rattle.server.specs.World.{moved};
 ghost use Rattle.server.specs.Acting.{ActsOn, place_of, place_of_part};
 ghost use Rattle.server.specs.Polling.{Serves};
-ghost use Rattle.server.specs.Refinement.{Refines, RefinesNotified, AsksBy};
+ghost use Rattle.server.specs.Refinement.{Refines, RefinesNotified};
 
 use crate::engine::Engine;
 use base_types::Moment;
@@ -27,18 +27,11 @@ impl<P: Planner + Drop> Engine<P> {
     pub(crate) fn serve<W: Wire + Observer>(&mut self, moment: Moment, key: usize, world: &mut W)
         ensures { Refines (moved W.polled W.notified) (Serves moment key) world.old self.old world.new self.new }
     {
-        while let Some(asked) = self.ask(key) {
+        while let Some(asked) = next(&mut self.connections, key, self.core.settings()) {
             let ConnectionAsk { id, ask } = asked;
             self.act(moment, EventOrigin { key, id }, ask, world);
             self.close_broken(moment, world);
         }
-    }
-
-    /// Returns what the connection under a key asks next.
-    fn ask(&mut self, key: usize) -> Option<ConnectionAsk>
-        ensures { AsksBy key result self.old self.new }
-    {
-        next(&mut self.connections, key, self.core.settings())
     }
 
     /// Handles an ask of a connection.
