@@ -40,7 +40,7 @@ use Rattle.server.proofs.DeviceOrders.{notifies}
 use Rattle.server.proofs.TurnsAndTicks.{ticks_due, covers, one_round}
 use Rattle.server.proofs.Accepts.{accepts_open}
 use Rattle.server.proofs.ServedBody.{answered_found, answered_refused}
-use Rattle.server.proofs.ResponseBytes.{as_none}
+use Rattle.server.proofs.ResponseBytes.{as_equal}
 
 module _ {S : Type 0} {moves : S → Happening → S → Type 0} where
   -- Q, and then R
@@ -86,7 +86,7 @@ module _ {S : Type 0} {moves : S → Happening → S → Type 0} where
 
   -- a request was dropped
   pub replies_none : (key id request : ℕ) (query : Bool) {reply : Option Effects} {u v : S} {a b : EngineState} → reply ≡ None → RefinesQuietly moves (Drops key id request) u a v b → RefinesQuietly moves (Replies key id request query reply) u a v b
-  replies_none key id request query {reply} {u} {v} {a} {b} none p = as_none moves (Replies key id request query) reply u v a b none p
+  replies_none key id request query {reply} {u} {v} {a} {b} none p = as_equal moves (Replies key id request query) reply None u v a b none p
 
   -- the relation of an ask, for an equal ask
   pub acts_as : (moment key id : ℕ) {asked what : Ask} {u v : S} {a b : EngineState} → asked ≡ what → RefinesQuietly moves (ActsOn moment key id what) u a v b → RefinesQuietly moves (ActsOn moment key id asked) u a v b

@@ -1,6 +1,6 @@
 //! The replies to the events of clients.
 ghost use Rattle.ipp_operations.specs.QueueText.{text_of};
-ghost use Rattle.server.specs.Answering.{IsAnswered, Replies, RepliesWith, LosesReply, Drops, Declines, Acknowledges, Responds, IsShown, SendsLpd, Shows};
+ghost use Rattle.server.specs.Answering.{IsAnswered, Replies, LosesReply, Drops, Declines, Acknowledges, Responds, IsShown, SendsLpd, Shows};
 ghost use Rattle.server.specs.Refinement.{RefinesNotified};
 
 use crate::acting::EventOrigin;
@@ -39,7 +39,8 @@ impl<P: Planner + Drop> Engine<P> {
 
 /// The replies to IPP clients.
 impl<P: Planner + Drop> Engine<P> {
-    /// Enqueues the reply to an event, or the status of a temporary error if the request was dropped.
+    /// Enqueues the reply to an event, or the status of a temporary error if the request was dropped. A response that
+    /// isn't IPP's has no bytes here.
     #[tactic(auto, using(crate::proofs::Joins::replies_none))]
     fn reply<N: Observer>(
         &mut self,
@@ -51,9 +52,16 @@ impl<P: Planner + Drop> Engine<P> {
     )
         ensures { RefinesNotified N.notified (Replies origin.key origin.id request query reply) notes.old self.old notes.new self.new }
     {
-        match reply {
-            Some(reply) => self.reply_with(origin, request, query, reply.response, notes),
-            None => self.drop_request(origin, request, notes),
+        let response = match reply {
+            Some(effects) => effects.response,
+            None => return self.drop_request(origin, request, notes),
+        };
+        let Response::Ipp(answer) = response else {
+            return;
+        };
+        match ipp_response(self.alloc, answer, request) {
+            Ok(bytes) => self.enqueue_reply(origin.key, &bytes, notes),
+            Err(_) => self.lose_reply(origin, request, query, notes),
         }
     }
 
@@ -70,26 +78,6 @@ impl<P: Planner + Drop> Engine<P> {
         notes.refused(AllocationSite::Event, Some(origin.id));
         let body = ipp_refusal(Status::TemporaryError, request);
         self.enqueue_reply(origin.key, &body, notes);
-    }
-
-    /// Enqueues the bytes of a response to an IPP request. Any other response has none.
-    fn reply_with<N: Observer>(
-        &mut self,
-        origin: EventOrigin,
-        request: u32,
-        query: bool,
-        answer: Response,
-        notes: &mut N,
-    )
-        ensures { RefinesNotified N.notified (RepliesWith origin.key origin.id request query answer) notes.old self.old notes.new self.new }
-    {
-        let Response::Ipp(answer) = answer else {
-            return;
-        };
-        match ipp_response(self.alloc, answer, request) {
-            Ok(bytes) => self.enqueue_reply(origin.key, &bytes, notes),
-            Err(_) => self.lose_reply(origin, request, query, notes),
-        }
     }
 
     /// Notifies the observer that memory for the bytes of a reply was refused. After a query the status of a
