@@ -1,11 +1,13 @@
 -- The place of a reader in its stream after a segment, and the elements that it will give.
 use Rattle.std.specs.Prelude.{ℕ, suc, zero, ◌≡◌, ◌⊎◌, ◌≤◌, ◌-◌, List, [], ◌∷◌, ◌++◌, length, map, take, drop, Result, Ok, Err, OnOk}
-use Rattle.std.proofs.Common.{arith, refl, subst, sym, ap, inl, inr}
+use Rattle.std.proofs.Common.{arith, refl, subst, sym, ap, ◌∙◌, inl, inr}
 use Rattle.std.specs.declared.alloc.AllocError.{AllocError}
 use Rattle.http_front.specs.declared.awaited.Awaited.{Awaited}
 use Rattle.http_front.specs.declared.awaited.Following.{Following}
 use Rattle.http_front.specs.declared.awaited.Awaited.TheVariants.{Head, Invitation, Body, Size, Trailer, Nothing}
 use Rattle.http_front.specs.Stream.{HttpElement, HasByte, Goes, Waits, ParsesIn, Parses, Exchanges, ParsesFirst, HttpState, IsOver, HasRead, HasLeft, AwaitsBody, past_body}
+use Rattle.std.proofs.Math.Seq.{drop-length}
+use Rattle.std.proofs.lemmas.List.{drop-append-le}
 use Rattle.http_front.proofs.Steps.{parses_then, lends}
 use Rattle.http_front.proofs.Laws.{stays_in, parsed_first, leads_more}
 
@@ -29,9 +31,22 @@ reaches_still stream given segment reader over reaches = record {
   kept = inl over;
 }
 
-pub fed_by : (old new : HttpState) (segment : List ℕ) (answer : Result (Unit {0}) AllocError) → OnOk answer (new ≡ record { part = []; rest = old.rest ++ segment; awaited = old.awaited }) → OnOk answer ((stream : List ℕ) (given : List HttpElement) → HasRead stream given old → HasRead (stream ++ segment) given new)
-fed_by old new segment (Ok done) is = λ stream given reaches. subst (λ n. HasRead (stream ++ segment) given n) (sym is) (reaches_fed stream given segment old reaches)
-fed_by old new segment (Err error) is = tt
+-- a reader with a segment after the bytes that weren't read
+pub fed_as : (old new : HttpState) (segment : List ℕ) → new ≡ record { part = []; rest = old.rest ++ segment; awaited = old.awaited } → (stream : List ℕ) (given : List HttpElement) → HasRead stream given old → HasRead (stream ++ segment) given new
+fed_as old new segment is stream given reaches = subst (λ n. HasRead (stream ++ segment) given n) (sym is) (reaches_fed stream given segment old reaches)
+
+abbrev pub reads_next : List ℕ → Awaited → HttpState
+reads_next rest awaited = record { part = []; rest = rest; awaited = awaited }
+
+-- the segment stands after the bytes that weren't read
+pub fed_after : (old : HttpState) (lent : ℕ) (unread segment fed : List ℕ) (awaited : Awaited) → record { part = take lent unread; rest = drop lent unread; awaited = awaited } ≡ old → lent ≤ length unread → fed ≡ drop lent (unread ++ segment) → reads_next fed awaited ≡ reads_next (old.rest ++ segment) old.awaited
+fed_after old lent unread segment fed awaited is within fed_is = subst (λ (r : HttpState). reads_next fed awaited ≡ reads_next (r.rest ++ segment) r.awaited) is (ap (λ bytes. reads_next bytes awaited) (fed_is ∙ drop-append-le lent unread segment within))
+
+-- all bytes were read, and the segment stands alone
+pub fed_alone : (old : HttpState) (spare bytes passed segment fed : List ℕ) (awaited : Awaited) → awaited ≡ old.awaited → old.rest ≡ [] → bytes ≡ spare → passed ≡ drop (length bytes) spare → fed ≡ passed ++ segment → reads_next fed awaited ≡ reads_next (old.rest ++ segment) old.awaited
+fed_alone old spare bytes passed segment fed awaited same none spared passed_is fed_is =
+    let empty : passed ≡ old.rest = passed_is ∙ ap (λ bs. drop (length bs) spare) spared ∙ drop-length spare ∙ sym none in
+    rw (fed_is, empty, same) refl
 
 -- laws of the elements that were given
 

@@ -78,7 +78,18 @@ impl HttpReader {
         if let Awaited::Nothing = self.awaited() {
             return Ok(());
         }
-        self.append(segment)
+        if self.rest().is_empty() {
+            // The part that was lent isn't moved.
+            self.spare.pass(self.spare.bytes().len());
+            self.spare.append(segment)?;
+            mem::swap(&mut self.unread, &mut self.spare);
+            self.lent = 0;
+            return Ok(());
+        }
+        self.unread.append(segment)?;
+        self.unread.pass(self.lent);
+        self.lent = 0;
+        Ok(())
     }
 
     /// Returns the next item, if it is whole. For a part of a body, [`HttpReader::part`] has the bytes.
@@ -372,25 +383,5 @@ impl HttpReader {
     {
         self.pass(count, Awaited::Nothing);
         Step::Gives(HttpItem::Refuse(refusal))
-    }
-
-    /// Appends bytes to those that aren't read. The only error is out of memory, and leaves the reader as it
-    /// was.
-    fn append(&mut self, segment: &[u8]) -> Result<(), AllocError>
-        ensures ok { OnOk result (self.new ≡ record { part = []; rest = self.old.rest ++ segment.now; awaited = self.old.awaited }) }
-        ensures err { OnErr result (self.new ≡ self.old) }
-    {
-        if self.rest().is_empty() {
-            // The part that was lent isn't moved.
-            self.spare.pass(self.spare.bytes().len());
-            self.spare.append(segment)?;
-            mem::swap(&mut self.unread, &mut self.spare);
-            self.lent = 0;
-            return Ok(());
-        }
-        self.unread.append(segment)?;
-        self.unread.pass(self.lent);
-        self.lent = 0;
-        Ok(())
     }
 }
