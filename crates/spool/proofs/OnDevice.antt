@@ -1,5 +1,5 @@
 -- A job that a device has stays there, until its device ends it.
-use Rattle.std.proofs.Common.{◌≡◌, ◌==◌, ◌&&◌, ◌∙◌, ℕ, Bool, true, false, cond, eqb, not, List, [], ◌∷◌, ◌++◌, Option, Some, None, refl, sym, ap, subst, map, filter, true≢false, inl, inr, ◌||◌}
+use Rattle.std.proofs.Common.{◌≡◌, ◌==◌, ◌&&◌, ◌∙◌, ℕ, Bool, true, false, cond, not, List, [], ◌∷◌, ◌++◌, Option, Some, None, refl, sym, ap, subst, map, filter, true≢false, inl, inr, ◌||◌}
 use Rattle.std.specs.Prelude.{option_map, nat_lt}
 use Rattle.base_types.specs.declared.limits.TheConstants.Limits.{FINISHED_JOBS_KEPT}
 use Rattle.std.specs.List.{list_any}
