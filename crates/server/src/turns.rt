@@ -24,7 +24,12 @@ impl<P: Planner + Drop> Engine<P> {
     }
 
     /// Reads each connection once. All reads use the engine's buffer.
-    pub(crate) fn read_all<W: Wire + Observer>(&mut self, moment: Moment, keys: usize, world: &mut W)
+    pub(crate) fn read_all<W: Wire + Observer>(
+        &mut self,
+        moment: Moment,
+        keys: usize,
+        world: &mut W,
+    )
         ensures { Refines (moved W.polled W.notified) (Each keys (ReadsOne moment)) world.old self.old world.new self.new }
     {
         match self.segment.take() {
@@ -54,7 +59,12 @@ impl<P: Planner + Drop> Engine<P> {
 
     /// Writes once on each connection with waiting bytes.
     #[tactic(auto, using(crate::proofs::Joins::next_more))]
-    pub(crate) fn write_all<W: Wire + Observer>(&mut self, moment: Moment, keys: usize, world: &mut W)
+    pub(crate) fn write_all<W: Wire + Observer>(
+        &mut self,
+        moment: Moment,
+        keys: usize,
+        world: &mut W,
+    )
         ensures { Refines (moved W.polled W.notified) (Each keys (WritesOne moment)) world.old self.old world.new self.new }
     {
         for key in 0..keys {
