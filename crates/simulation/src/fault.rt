@@ -2,16 +2,13 @@
 
 use drawing::Page;
 use std::alloc::{AllocError, AllocFailed};
-use thiserror::Error;
 
 /// Why a text has no day, why its jobs aren't a list for some settings, or why the devices of a day can't be
 /// made.
-#[derive(Debug, Drop, Error)]
+#[derive(Drop)]
 pub enum DayFault {
     /// The reason is in the sentence.
-    #[error("{sentence}")]
     Refused { sentence: String },
-    #[error("out of memory")]
     OutOfMemory,
 }
 

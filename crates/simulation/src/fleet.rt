@@ -11,7 +11,7 @@ use base_types::{Moment, Report};
 use dispatcher::Core;
 use drawing::Page;
 use plan_solver::AugmentingPaths;
-use settings_file::Settings;
+use settings_file::{DeviceSettings, Settings};
 use std::alloc::{AllocError, Global};
 
 /// A further device.
@@ -51,20 +51,32 @@ fn place_of_like(alloc: Global, settings: &Settings, added: Added<'_>) -> Result
     }
 }
 
+/// A further device for some settings, and the place of the device that it is like.
+fn further_device(
+    alloc: Global,
+    settings: &Settings,
+    added: Added<'_>,
+) -> Result<(usize, DeviceSettings), DayFault> {
+    let place = place_of_like(alloc, settings, added)?;
+    if settings.device_named(added.name.as_bytes()).is_some() {
+        return Err(device_fault(alloc, "have a device", added.name, " already"));
+    }
+    match settings.devices.get(place) {
+        Some(like) => Ok((
+            place,
+            device_of(alloc, added.name, like, added.words, settings)?,
+        )),
+        None => Err(device_fault(alloc, "take no device", added.name, NO_MORE)),
+    }
+}
+
 /// Settings with a further device. It is after all others, and belongs to each printer that has the device
 /// that it is like.
 fn with_device(alloc: Global, settings: Settings, added: Added<'_>) -> Result<Settings, DayFault>
     requires { MeetsLimits settings }
     ensures { IfOk result MeetsLimits }
 {
-    let place = place_of_like(alloc, &settings, added)?;
-    if settings.device_named(added.name.as_bytes()).is_some() {
-        return Err(device_fault(alloc, "have a device", added.name, " already"));
-    }
-    let Some(like) = settings.devices.get(place) else {
-        return Err(device_fault(alloc, "take no device", added.name, NO_MORE));
-    };
-    let device = device_of(alloc, added.name, like, added.words, &settings)?;
+    let (place, device) = further_device(alloc, &settings, added)?;
     match extended(alloc, settings, place, device)? {
         Some(settings) => Ok(settings),
         None => Err(device_fault(alloc, "take no device", added.name, NO_MORE)),

@@ -103,10 +103,10 @@ pub(crate) fn extended(
     ensures { IfOk result (λ more. IfSome more MeetsLimits) }
 {
     let place = settings.devices.len();
-    if place >= Limits::DEVICES || !is_within(&device) {
-        return Ok(None);
-    }
-    if settings.device_named(device.name.as_bytes()).is_some() {
+    if place >= Limits::DEVICES
+        || !is_within(&device)
+        || settings.device_named(device.name.as_bytes()).is_some()
+    {
         return Ok(None);
     }
     let mut settings = settings;

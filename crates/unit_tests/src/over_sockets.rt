@@ -282,10 +282,10 @@ fn goes_over(
 ) -> io::Result<bool>
     requires { MeetsLimits settings }
 {
-    let Ok(mut server) = Server::new(rt.alloc(), sockets, settings) else {
-        return Err(io::Error::from(io::ErrorKind::OutOfMemory));
-    };
-    goes(rt, &mut server, scene)
+    match Server::new(rt.alloc(), sockets, settings) {
+        Ok(mut server) => goes(rt, &mut server, scene),
+        Err(_) => Err(io::Error::from(io::ErrorKind::OutOfMemory)),
+    }
 }
 
 /// Plays a scene as [`goes`] does, on a server that has just started.

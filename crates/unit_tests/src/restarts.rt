@@ -45,13 +45,16 @@ impl JournaledServer {
         let settings = read_settings(alloc, SETTINGS)?;
         let planner = Pausable::new(AugmentingPaths::new(alloc));
         let wire = RecordingWire::new(alloc, Gate::new(alloc, peers));
-        Ok(JournaledServer {
-            engine: Engine::new(alloc, settings, planner)?,
-            wire,
-            journal: Stored {
-                lines: Vec::new(alloc),
-            },
-        })
+        match Engine::new(alloc, settings, planner) {
+            Ok(engine) => Ok(JournaledServer {
+                engine,
+                wire,
+                journal: Stored {
+                    lines: Vec::new(alloc),
+                },
+            }),
+            Err(error) => Err(Fail::from(error)),
+        }
     }
 
     /// Takes turns, in which by turns only reads and only writes reach the wire. Returns whether all are stored.
@@ -91,24 +94,23 @@ struct Killed {
 }
 
 impl JournaledServer {
-    /// Ends the server at once.
-    fn kill(self) -> Killed {
-        let replied = got(&self.wire.wire.wire, 0, PLAIN.answered);
-        let JournaledServer { journal, .. } = self;
-        Killed {
-            replied,
-            journal: journal.lines,
+    /// What is left after a number of turns. The server takes no turn after them.
+    fn kill_after(&mut self, alloc: Global, turns: usize) -> Result<Killed, Fail> {
+        if !self.turns(turns) {
+            return Err(Fail::from("a turn isn't stored"));
         }
+        Ok(Killed {
+            replied: got(&self.wire.wire.wire, 0, PLAIN.answered),
+            journal: std::mem::replace(&mut self.journal.lines, Vec::new(alloc)),
+        })
     }
 }
 
 /// What is left of a server after a number of turns.
 fn serve_and_kill(alloc: Global, written: &[u8], turns: usize) -> Result<Killed, Fail> {
-    let mut server = JournaledServer::new(alloc, written)?;
-    if server.turns(turns) {
-        Ok(server.kill())
-    } else {
-        Err(Fail::from("a turn isn't stored"))
+    match JournaledServer::new(alloc, written) {
+        Ok(mut server) => server.kill_after(alloc, turns),
+        Err(fail) => Err(fail),
     }
 }
 
@@ -142,7 +144,10 @@ fn refusal_of(fault: &PlayFault) -> Result<Refusal, Fail> {
 fn begun(alloc: Global) -> Result<Resumption, Fail> {
     let settings = read_settings(alloc, SETTINGS)?;
     let first = JobId::new(JobId::FIRST).unwrap();
-    Ok(Resumption::new(alloc, settings, first)?)
+    match Resumption::new(alloc, settings, first) {
+        Ok(played) => Ok(played),
+        Err(error) => Err(Fail::from(error)),
+    }
 }
 
 /// Plays the lines of a journal. Returns why one of them isn't played.
@@ -165,11 +170,11 @@ fn play_lines(
     Ok(None)
 }
 
-/// The state of the first job after a restart, if the job is there.
-fn state_after_restart(played: Resumption) -> Result<Option<JobState>, Fail> {
+/// The state of the first job after a restart, if the job is there; `None` if there is no restart.
+fn state_after_restart(played: Resumption) -> Option<Option<JobState>> {
     match played.restart() {
-        Ok(restarted) => Ok(state_of(&restarted)),
-        Err(_) => Err(Fail::from("no restart")),
+        Ok(restarted) => Some(state_of(&restarted)),
+        Err(_) => None,
     }
 }
 
@@ -184,9 +189,12 @@ fn state_of(restarted: &Restarted) -> Option<JobState> {
 /// The state of the first job after a start from a journal, if the job is there; or why the journal isn't played.
 fn resumed(alloc: Global, journal: &[u8]) -> Result<Result<Option<JobState>, Refusal>, Fail> {
     let mut played = begun(alloc)?;
-    match play_lines(alloc, &mut played, journal)? {
-        Some(refusal) => Ok(Err(refusal)),
-        None => Ok(Ok(state_after_restart(played)?)),
+    let refused = play_lines(alloc, &mut played, journal);
+    let state = state_after_restart(played);
+    match (refused?, state) {
+        (Some(refusal), _) => Ok(Err(refusal)),
+        (None, Some(state)) => Ok(Ok(state)),
+        (None, None) => Err(Fail::from("no restart")),
     }
 }
 

@@ -1,6 +1,6 @@
 //! Advice about settings that are allowed.
 use settings_advice::advice_on;
-use settings_file::read_settings_bytes;
+use settings_file::{Settings, read_settings_bytes};
 use std::alloc::{AllocError, Global};
 use std::test::Fail;
 
@@ -61,11 +61,17 @@ const ROWS: [(&str, &str, &str); 10] = [
 /// The advice about the whole file with a text replaced, a line each. The only error is out of memory.
 fn advised(alloc: Global, old: &str, new: &str) -> Result<String, AllocError> {
     let text = WHOLE.replace(alloc, old, new)?;
+    match read_settings_bytes(alloc, text.as_bytes()) {
+        Ok(settings) => lines_on(alloc, &settings),
+        Err(_) => Ok(String::new(alloc)),
+    }
+}
+
+/// The advice about settings, a line each. The only error is out of memory.
+fn lines_on(alloc: Global, settings: &Settings) -> Result<String, AllocError> {
     let mut lines = String::new(alloc);
-    if let Ok(settings) = read_settings_bytes(alloc, text.as_bytes()) {
-        for advice in &advice_on(alloc, &settings)? {
-            lines.push_str(&format!(in alloc; "{advice}\n")?)?;
-        }
+    for advice in &advice_on(alloc, settings)? {
+        writeln!(lines, "{advice}")?;
     }
     Ok(lines)
 }
