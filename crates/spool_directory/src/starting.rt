@@ -15,9 +15,11 @@ use crate::spool_files::{JournalPlace, SpoolFiles, SpoolOptions, cut};
 use base_types::{JobId, Moment};
 use job_objects::JobState;
 use journal::{
-    JournaledEngine, Restarted, ResubmissionFault, Resumption, SavedJob, Which, saved_jobs,
+    JournaledEngine, Restarted, ResubmissionFault, Resumption, SavedJob, StoredLines, Which,
+    saved_jobs,
 };
 use settings_file::Settings;
+use std::mem;
 
 /// A server that starts.
 #[derive(Drop)]
@@ -296,56 +298,50 @@ impl<'a> SpoolDirectory<'a> {
         requires { IsPlaying played.resumption }
         ensures { IfOk result (λ start. HasStarted start.files.stored.lines start.engine) }
     {
-        let directory = self.directory;
         let place = place_of(&played);
-        let (restarted, in_hand) = match directory.restarted(played.resumption) {
-            Ok(made) => made,
-            Err(fault) => return Err(fault),
-        };
-        match directory.next_draft(listing, place, &restarted.text, options.version) {
-            Ok(next) => self.continue_after(listing, place, restarted, in_hand, next, options),
+        match self.directory.restarted(played.resumption) {
+            Ok((mut restarted, in_hand)) => {
+                match self.continue_after(listing, place, &mut restarted, in_hand, options) {
+                    Ok(files) => Ok(StartingServer {
+                        engine: restarted.engine,
+                        last: restarted.last,
+                        files,
+                    }),
+                    Err(fault) => Err(fault),
+                }
+            }
             Err(fault) => Err(fault),
         }
     }
 
-    /// As [`SpoolDirectory::go_on`], with the file that goes on after the place.
+    /// Begins the file that goes on after a place for an engine that was restarted. Returns the files of the journal.
     fn continue_after(
         self,
         listing: &Listing,
         place: JournalPlace,
-        restarted: Restarted,
+        restarted: &mut Restarted,
         in_hand: Vec<SavedJob>,
-        next: DraftFile<'_>,
         options: SpoolOptions<'a>,
-    ) -> Result<StartingServer<'a>, SpoolFault>
-        requires { HasStarted restarted.stored.lines restarted.engine }
-        ensures { IfOk result (λ start. HasStarted start.files.stored.lines start.engine) }
+    ) -> Result<SpoolFiles<'a>, SpoolFault>
+        requires { HasStarted restarted.old.stored.lines restarted.old.engine }
+        ensures { IfOk result (λ files. HasStarted files.stored.lines restarted.new.engine) }
     {
         let directory = self.directory;
-        let Restarted {
-            mut engine,
-            last,
-            stored,
-            ..
-        } = restarted;
-        let mut next = next.after(stored);
+        let next = directory.next_draft(listing, place, &restarted.text, options.version);
+        let mut next = match next {
+            Ok(next) => next.after(mem::replace(&mut restarted.stored, StoredLines::new())),
+            Err(fault) => return Err(fault),
+        };
         if let Err(fault) = directory.end_jobs(
             in_hand,
             options.reprint,
-            &mut engine,
-            last,
+            &mut restarted.engine,
+            restarted.last,
             &mut next,
         ) {
             return Err(next.abandon(fault));
         }
-        directory.tell_waiting(&engine);
-        match SpoolFiles::go_on(self, listing, place, next, options) {
-            Ok(files) => Ok(StartingServer {
-                engine,
-                last,
-                files,
-            }),
-            Err(fault) => Err(fault),
-        }
+        directory.tell_waiting(&restarted.engine);
+        SpoolFiles::go_on(self, listing, place, next, options)
     }
 }
