@@ -5,6 +5,7 @@ ghost use Rattle.dispatcher.specs.Notes.{Canceled, Notifies};
 ghost use Rattle.dispatcher.specs.Run.{Comes, Run};
 ghost use Rattle.dispatcher.specs.Following.{FollowsNotified};
 
+use crate::apply::apply;
 use crate::handled::{Dispatch, Handled};
 use crate::observer::{AllocationSite, Observer};
 use crate::server_core::Core;
@@ -34,7 +35,7 @@ impl<P: Planner + Drop> Core<P> {
     {
         let Timed { event, moment } = timed;
         let is_query = event.is_query();
-        let Ok(effects) = self.apply(event, moment) else {
+        let Ok(effects) = apply(self.alloc, &mut self.room, event, moment) else {
             return None;
         };
         notify_cancels(&effects.cancels, observer);

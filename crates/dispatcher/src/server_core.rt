@@ -24,7 +24,7 @@ use std::mem;
 pub struct Core<P: Planner> {
     pub(crate) room: PrintRoom,
     pub(crate) planner: P,
-    alloc: Global,
+    pub(crate) alloc: Global,
 }
 
 impl<P: Planner> Model for Core<P> {

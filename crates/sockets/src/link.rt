@@ -106,27 +106,20 @@ impl Link {
     pub(crate) fn read(&mut self, buffer: &mut [u8], moment: Moment) -> io::Result<usize>
         ensures { ReadsAtMost result buffer.new }
     {
-        let read = self.next(buffer);
-        if let Ok(count) = &read {
-            self.idle_timeout.came(*count, moment);
+        if self.ahead.is_empty() {
+            if !self.much || !self.ahead.has_room() {
+                let read = self.stream.read(buffer);
+                self.record_read(&read, buffer.len());
+                if let Ok(count) = &read {
+                    self.idle_timeout.came(*count, moment);
+                }
+                return read;
+            }
+            self.read_ahead()?;
         }
-        read
-    }
-
-    /// Returns the next bytes: those that were read ahead if there are any, else those of the socket.
-    fn next(&mut self, buffer: &mut [u8]) -> io::Result<usize>
-        ensures { ReadsAtMost result buffer.new }
-    {
-        if !self.ahead.is_empty() {
-            return Ok(self.ahead.take(buffer));
-        }
-        if !self.much || !self.ahead.has_room() {
-            let read = self.stream.read(buffer);
-            self.record_read(&read, buffer.len());
-            return read;
-        }
-        self.read_ahead()?;
-        Ok(self.ahead.take(buffer))
+        let count = self.ahead.take(buffer);
+        self.idle_timeout.came(count, moment);
+        Ok(count)
     }
 
     /// Frees the memory for reading ahead, if no bytes are left in it.
