@@ -3,7 +3,6 @@ use Rattle.std.proofs.Common.{◌≡◌, ℕ, zero, suc, ◌<◌, ◌≤◌, Lis
 use Rattle.std.proofs.lemmas.List.Elements.{All-cons, All-head, All-tail, All-weaker}
 use Rattle.base_types.specs.declared.device.Activity.{Activity}
 use Rattle.base_types.specs.declared.device.Activity.TheVariants.{Running, Stopped}
-use Rattle.base_types.specs.declared.report.Report.TheVariants as reported
 use Rattle.base_types.specs.Device.{Device}
 use Rattle.settings_file.specs.Settings.{DeviceEntry}
 use Rattle.print_room.specs.Opening.{opening_device}

@@ -133,7 +133,9 @@ impl PrintRoom {
         ensures { self.new ≡ record (beginning_all self.old.last starts.items self.old) { begun = starts.items } }
     {
         let begins_none = starts.is_empty();
-        self.begin_all(&starts);
+        for start in &starts {
+            self.begin(*start);
+        }
         self.begun = starts;
         self.good_for = if begins_none { Some(self.last) } else { None };
     }

@@ -1,8 +1,8 @@
 //! The jobs that begin.
 ghost use Rattle.std.specs.Prelude.{◌≡◌, ◌<◌, ◌≤◌, ◌++◌, OnOk, IfOk, IfSome, None, length, option_to_list, All, if◌then◌else◌};
 ghost use Rattle.plan_prices.specs.Way.{queue_of};
-ghost use Rattle.print_room.specs.Beginning.{CanBegin, AllCanBegin};
-ghost use Rattle.print_room.specs.Dispatch.{runs_idle, is_free, beginning, beginning_all, first_of, first_of_queue, starts_from};
+ghost use Rattle.print_room.specs.Beginning.{CanBegin};
+ghost use Rattle.print_room.specs.Dispatch.{runs_idle, is_free, beginning, first_of, first_of_queue, starts_from};
 
 use crate::activity::wait_of;
 use crate::room::PrintRoom;
@@ -121,20 +121,8 @@ fn add_start(starts: &mut Vec<Started>, start: Option<Started>) -> Result<(), Al
 }
 
 impl PrintRoom {
-    /// Begins jobs on their devices, one after the other.
-    pub(crate) fn begin_all(&mut self, starts: &[Started])
-        requires inside { All (λ start. start.device < length self.old.devices) starts.now }
-        requires short { All (λ start. start.time ≤ Limits.JOB_TIME) starts.now }
-        requires can { AllCanBegin self.old.last starts.now self.old }
-        ensures { self.new ≡ beginning_all self.old.last starts.now self.old }
-    {
-        for start in starts {
-            self.begin(*start);
-        }
-    }
-
     /// Begins a job on its device.
-    fn begin(&mut self, start: Started)
+    pub(crate) fn begin(&mut self, start: Started)
         requires inside { start.device < length self.old.devices }
         requires short { start.time ≤ Limits.JOB_TIME }
         requires can { CanBegin start self.old }

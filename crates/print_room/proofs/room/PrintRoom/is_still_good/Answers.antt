@@ -1,6 +1,6 @@
-use Rattle.std.proofs.Common.{◌∙◌, ℕ, Option, Some, sym, subst}
+use Rattle.std.proofs.Common.{◌∙◌, ℕ, Option, sym, subst}
 use Rattle.print_room.specs.State.{State}
-use Rattle.print_room.specs.StillGood.{HoldsFor, IsStillGood, waits_stay}
+use Rattle.print_room.specs.StillGood.{HoldsFor, IsStillGood}
 use Rattle.print_room.proofs.StillGood.{good_at}
 use Rattle.print_room.proofs.room.PrintRoom.is_still_good.Goals as goal
 
