@@ -29,7 +29,7 @@ fn adds_day(alloc: Global, table: &mut AccountTable, day: &[u8]) -> bool {
     if !plays(&mut follower, day) {
         return false;
     }
-    match follower.into_accounts() {
+    match follower.take_accounts() {
         Ok(Some(accounts)) => table.add_day(&accounts).is_ok(),
         _ => false,
     }

@@ -89,6 +89,12 @@ impl Follower {
         self.keeps_accounts = true;
     }
 
+    /// Begins another day, whose first file [`Follower::begin_file`] begins. Accounts are kept if they were kept.
+    pub fn begin_day(&mut self) {
+        self.stage = FollowingStage::Settings(Vec::new(self.alloc));
+        self.is_past = false;
+    }
+
     /// Begins a file of this name, which faults name with the number of a line. What arrived of a turn that hasn't
     /// ended is dropped: a file that goes on begins with a turn. The only error is out of memory.
     pub fn begin_file(&mut self, file: &str) -> Result<(), AllocError> {
@@ -187,15 +193,15 @@ impl Follower {
         }
     }
 
-    /// The accounts of the jobs, if they are kept, after the last turn; `None` before the line after the settings was
-    /// played. The only error is out of memory.
-    pub fn into_accounts(self) -> Result<Option<DayAccounts>, AllocError> {
-        let Follower { stage, .. } = self;
-        let FollowingStage::Turns(playing) = stage else {
-            return Ok(None);
-        };
-        let FollowedServer { engine, ledger, .. } = playing;
-        Ok(Some(ledger.into_accounts(&engine)?))
+    /// Takes the accounts of the jobs, if they are kept, after the last turn; `None` before the line after the settings
+    /// was played. The only error is out of memory.
+    pub fn take_accounts(&mut self) -> Result<Option<DayAccounts>, AllocError> {
+        match &mut self.stage {
+            FollowingStage::Turns(playing) => Ok(Some(
+                playing.ledger.take_accounts(&playing.engine)?,
+            )),
+            FollowingStage::Settings(_) | FollowingStage::Start(_) => Ok(None),
+        }
     }
 
     /// The fault of a day that has all arrived, if the line after the settings isn't among its lines.

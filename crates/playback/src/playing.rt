@@ -229,8 +229,8 @@ impl<'file, 'output, W: Write> DayPlay<'file, 'output, W> {
         &mut self,
         lines: &mut LineReader<'_, R>,
         engine: &mut JournaledEngine,
-        sinks: LogSinks,
     ) -> Result<DayEnd, EarlyEnd> {
+        let sinks = LogSinks::new(self.alloc, engine, self.shows)?;
         let mut player = Player::new(self.alloc, engine, self.shows, sinks);
         self.play_turns(lines, &mut player)
     }
@@ -246,11 +246,10 @@ impl<'file, 'output, W: Write> DayPlay<'file, 'output, W> {
         requires { MeetsLimits settings }
     {
         let planner = Pausable::new(AugmentingPaths::new(self.alloc));
-        let Ok(mut engine) = Engine::starting_at(self.alloc, settings, planner, first) else {
-            return Err(EarlyEnd::OutOfMemory);
-        };
-        let sinks = LogSinks::new(self.alloc, &engine, self.shows)?;
-        self.play_on(lines, &mut engine, sinks)
+        match Engine::starting_at(self.alloc, settings, planner, first) {
+            Ok(mut engine) => self.play_on(lines, &mut engine),
+            Err(_) => Err(EarlyEnd::OutOfMemory),
+        }
     }
 
     /// Plays the whole day.

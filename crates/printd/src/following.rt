@@ -202,11 +202,10 @@ impl<'a> FollowedRecording<'a> {
 
     /// Begins to read the file with a number: it goes on with the day, or begins another.
     fn begin(&mut self, number: u32) -> io::Result<()> {
-        let file = self.chain.open(number)?;
+        self.file = self.chain.open(number)?;
         if !self.chain.goes_on(number)? {
-            self.follower = Follower::new(self.rt.alloc());
+            self.follower.begin_day();
         }
-        self.file = file;
         self.number = number;
         self.name_file()
     }

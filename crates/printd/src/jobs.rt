@@ -7,8 +7,8 @@ use queue_reports::AccountTable;
 use recordings::{GOES_ON, fill};
 use std::alloc::AllocError;
 use std::fs::File;
+use std::io;
 use std::io::Write;
-use std::{io, mem};
 
 /// The number of bytes that one read asks for.
 const CHUNK: usize = 65_536;
@@ -52,19 +52,14 @@ impl From<AllocError> for JobsFault {
     }
 }
 
-/// A follower of a day of which nothing has arrived, which keeps accounts.
-fn new_follower(rt: &HostRuntime) -> Follower {
-    let mut follower = Follower::new(rt.alloc());
-    follower.keep_accounts();
-    follower
-}
-
 impl<'a> JobDays<'a> {
     /// Creates the days of no files, whose rows are added to a table.
     fn new(rt: &'a HostRuntime, table: &'a mut AccountTable) -> JobDays<'a> {
+        let mut follower = Follower::new(rt.alloc());
+        follower.keep_accounts();
         JobDays {
             rt,
-            follower: new_follower(rt),
+            follower,
             table,
             has_begun: false,
         }
@@ -107,8 +102,9 @@ impl<'a> JobDays<'a> {
 
     /// Adds the rows of the day.
     fn end_day(&mut self) -> Result<(), AllocError> {
-        let ended = mem::replace(&mut self.follower, new_follower(self.rt));
-        match ended.into_accounts()? {
+        let day = self.follower.take_accounts()?;
+        self.follower.begin_day();
+        match day {
             Some(day) => self.table.add_day(&day),
             None => Ok(()),
         }

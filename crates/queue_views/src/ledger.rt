@@ -13,6 +13,7 @@ use job_objects::{Job, JobState};
 use plan_prices::Planner;
 use server::Engine;
 use std::alloc::{AllocError, Global};
+use std::mem;
 use wires::WireId;
 
 /// The most finished jobs that a view shows.
@@ -149,27 +150,21 @@ impl Ledger {
         self.book = Some(AccountBook::new(self.alloc));
     }
 
-    /// The accounts of the jobs that came since they are kept, by rising id; those of the unfinished jobs as they are
-    /// in the engine. The only error is out of memory.
-    pub fn into_accounts<P: Planner + Drop>(
-        self,
+    /// Takes the accounts of the jobs that came since they are kept, by rising id, those of the unfinished jobs as they
+    /// are in the engine, and the times of its moments. The only error is out of memory.
+    pub fn take_accounts<P: Planner + Drop>(
+        &mut self,
         engine: &Engine<P>,
     ) -> Result<DayAccounts, AllocError> {
-        let mut ledger = self;
         for spooled in engine.jobs() {
             if !spooled.job().state.is_finished() {
-                ledger.note_account(engine, spooled.job())?;
+                self.note_account(engine, spooled.job())?;
             }
         }
-        let Ledger {
-            alloc,
-            clock,
-            book,
-            ..
-        } = ledger;
-        let jobs = match book {
+        let clock = mem::replace(&mut self.clock, Clock::new(self.alloc));
+        let jobs = match self.book.take() {
             Some(book) => book.into_accounts(),
-            None => Vec::new(alloc),
+            None => Vec::new(self.alloc),
         };
         Ok(DayAccounts { clock, jobs })
     }
