@@ -194,3 +194,8 @@ asks_none decoder document header status is bytes reaches holds =
 
 pub asks_event : (decoder : DecoderState) (document : List ℕ) (asked : Operation) (id : ℕ) (event : Result Event Status) → RequestsOf asked decoder document event → AsksByOf asked id decoder document (answered id event)
 asks_event decoder document asked id event requests bytes reaches holds = (event, requests bytes reaches holds, refl)
+
+-- the parsed request of a body whose header names an operation, by the event or the status of what follows
+pub asks_answered : (decoder : DecoderState) (document : List ℕ) (header : Header) (asked : Operation) (event : Result Event Status) → header_of decoder.head ≡ Some header → operation_of header ≡ Ok asked → RequestsOf asked decoder document event → AsksOf decoder document (answered header.request_id event)
+asks_answered decoder document header asked event named known requests =
+    asks_under decoder document header (answered header.request_id event) named (asks_by decoder document header asked (answered header.request_id event) known (asks_event decoder document asked header.request_id event requests))
